@@ -1,0 +1,45 @@
+-- What the tests of a row of blocks say of its status. Assumes nothing.
+use mathlib.Core.Path.{_≡_, refl, sym}
+use Prim.Native.Nat.{ℕ, _≤_, _<_}
+use native.Mathlib.Nat.{le-refl}
+use borrow.Author.Tests.{le-leb, lt-leb, lt-ltb, le-ltb}
+use mathlib.Core.List.{List}
+use Rattle.definition.specs.Blocks.{stretchStart, classEnd}
+use mathlib.Core.Bool.{and-false}
+use lib.Dec.{leb}
+use Rattle.blocks.specs.Answers.{rowStatus, blockStatus, orZero, endOf}
+
+pub row-in : (bw : ℕ) → bw ≤ 16 → rowStatus bw ≡ 0
+row-in bw h = rw (le-leb bw 16 h)
+
+pub row-out : (bw : ℕ) → 16 < bw → rowStatus bw ≡ 5
+row-out bw h = rw (lt-leb bw 16 h)
+
+pub block-in : (bx bw : ℕ) → bw ≤ 16 → bx ≤ bw → blockStatus bx bw ≡ 0
+block-in bx bw h k = rw (le-leb bw 16 h, le-leb bx bw k)
+
+pub block-wide : (bx bw : ℕ) → 16 < bw → blockStatus bx bw ≡ 5
+block-wide bx bw h = rw (lt-leb bw 16 h)
+
+pub block-past : (bx bw : ℕ) → bw < bx → blockStatus bx bw ≡ 5
+block-past bx bw h = rw (lt-leb bx bw h, and-false (leb bw 16))
+
+-- the answer of a stretch of one class, found or missing, and of a refusal
+module _ (mask : ℕ) (classes : List ℕ) (bx bw : ℕ) where
+  abbrev pub Answer : ℕ → ℕ → ℕ → Type 0
+  Answer status start end =
+      ((status ≡ blockStatus bx bw) × (start ≡ orZero (blockStatus bx bw) (stretchStart mask bx bw))) ×
+      (end ≡ orZero (blockStatus bx bw) (endOf mask classes (stretchStart mask bx bw) bw))
+
+  pub refused : blockStatus bx bw ≡ 5 → Answer 5 0 0
+  refused e = rw e ((refl, refl), refl)
+
+  pub found : (start end : ℕ) → bw ≤ 16 → bx ≤ bw → start < bw → stretchStart mask bx bw ≡ start → classEnd mask classes start bw ≡ end → Answer 0 start end
+  found start end h k l e f =
+      let z : blockStatus bx bw ≡ 0 = block-in bx bw h k in
+      rw (z, e) ((refl, refl), rw (lt-ltb start bw l) (sym f))
+
+  pub missing : bw ≤ 16 → bx ≤ bw → stretchStart mask bx bw ≡ bw → Answer 0 bw bw
+  missing h k e =
+      let z : blockStatus bx bw ≡ 0 = block-in bx bw h k in
+      rw (z, e) ((refl, refl), rw (le-ltb bw bw (le-refl bw)))

@@ -1,0 +1,33 @@
+// Tests of places against lengths, for all 64-bit numbers: nothing wraps.
+ghost use mathlib.Core.Path.{_≡_};
+ghost use Prim.Native.Nat.{_+_};
+ghost use lib.Dec.{leb};
+ghost use Rattle.definition.specs.Refusals.{indicesUpTo};
+
+// Whether at + a + b is at most len.
+pub fn room(at: usize, a: usize, b: usize, len: usize) -> bool
+    ensures { λ r. ⌜ r ≡ leb (at + a + b) len ⌝ }
+{
+    if len < at {
+        return false;
+    }
+    let left = len - at;
+    if left < a {
+        return false;
+    }
+    b <= left - a
+}
+
+// Whether ten row indices are at most a limit.
+pub fn indices_up_to(indices: &[usize; 10], limit: usize) -> bool
+    ensures { λ r. ⌜ r ≡ indicesUpTo limit (now (indices .entry)) ⌝ }
+{
+    let mut k = 0;
+    while k < 10 {
+        if limit < indices[k] {
+            return false;
+        }
+        k += 1;
+    }
+    true
+}

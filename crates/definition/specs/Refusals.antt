@@ -1,0 +1,219 @@
+-- Document 01, 'When a unit is declined': each line of the table as a condition, and the status that comes first. Exact over ℕ: nothing wraps.
+use mathlib.Core.Bool.{Bool, true, false, cond, not, _&&_, _||_}
+use mathlib.Core.List.{List, [], _∷_}
+use Prim.Native.Nat.{ℕ, zero, suc, _+_, _-_, _*_, _/_, _%_, _^_}
+use lib.Dec.{ltb, leb, eqb}
+use lib.ListN.{length, getD}
+use Rattle.definition.specs.Padding.{hasLeft, hasRight, hasTop, hasBottom, topIntegrated, bottomIntegrated}
+use Rattle.definition.specs.Blocks.{side}
+use Rattle.definition.specs.ClassIndex.{lastColumn}
+use Rattle.definition.specs.Units.{Operation, luma, user, pretrained, chroma, border, setSize, Given, Lent}
+
+-- a condition with the number that is returned where it holds
+infix 30 _⇒_
+pub data Check : Type 0 where
+  _⇒_ : Bool → ℕ → Check
+
+-- the number of the first condition that holds, and 0 where none does
+abbrev pub lowest : List Check → ℕ
+lowest [] = 0
+lowest ((b ⇒ n) ∷ cs) = cond b n (lowest cs)
+
+-- the limits
+abbrev pub widthLimit : ℕ
+widthLimit = 64
+
+abbrev pub heightLimit : ℕ
+heightLimit = 64
+
+abbrev pub strideLimit : ℕ
+strideLimit = 65536
+
+abbrev pub mapSize : ℕ
+mapSize = 4096
+
+-- a multiple of 4 in 4 .. limit
+abbrev pub sized : ℕ → ℕ → Bool
+sized limit n = eqb (n % side) 0 && leb side n && leb n limit
+
+-- whether every entry of a list passes a test
+abbrev pub every : (ℕ → Bool) → List ℕ → Bool
+every test [] = true
+every test (x ∷ xs) = test x && every test xs
+
+-- The last of `rows` rows, w samples and `behind` more, ends past the list, or `before` samples before the first row are missing; no rows: nothing is looked at.
+abbrev pub outside : ℕ → ℕ → ℕ → ℕ → ℕ → ℕ → ℕ → Bool
+outside len off stride zero w before behind = false
+outside len off stride (suc rows) w before behind = ltb off before || ltb len (off + rows * stride + w + behind)
+
+-- pairs are (0,0), (1,0) and (1,1), kinds 0 to 2
+abbrev pub badSampling : ℕ → ℕ → ℕ → Bool
+badSampling ssHor ssVer kind = ltb 1 ssHor || ltb ssHor ssVer || ltb 2 kind
+
+-- samples that are padded from only where an edge bit is set
+abbrev pub beside : Bool → ℕ → ℕ
+beside bit e = cond bit e 0
+
+module _ (op : Operation) (g : Given) (l : Lent) (size : ℕ) where
+  -- before and behind a row; e is four for luma rows of a chroma unit too
+  abbrev pub leftOf : ℕ → ℕ
+  leftOf e = beside (hasLeft (g .edges)) e
+
+  abbrev pub rightOf : ℕ → ℕ
+  rightOf e = beside (hasRight (g .edges)) e
+
+  -- 3: stride under w, or under w + e with the right bit; a stride (luma's too) over the limit
+  abbrev pub badStride : Operation → Bool
+  badStride chroma = ltb (g .stride) (g .w + rightOf 2) || ltb strideLimit (g .stride) || ltb strideLimit (g .lumaStride)
+  badStride luma = ltb (g .stride) (g .w + rightOf 4) || ltb strideLimit (g .stride)
+  badStride user = ltb (g .stride) (g .w + rightOf 4) || ltb strideLimit (g .stride)
+  badStride pretrained = ltb (g .stride) (g .w + rightOf 4) || ltb strideLimit (g .stride)
+
+  -- 4: chroma: other pair, or kind not 0 .. 2
+  abbrev pub badPair : Operation → Bool
+  badPair chroma = badSampling (g .ssHor) (g .ssVer) (g .kind)
+  badPair luma = false
+  badPair user = false
+  badPair pretrained = false
+
+  -- 5: a sample of the unit's own plane, of `size` bytes, that is written or padded from lies outside, masked or not
+  abbrev pub badPlane : Bool
+  badPlane = outside size (g .off) (g .stride) (g .h + beside (bottomIntegrated (g .edges)) (border op)) (g .w) 0 (rightOf (border op))
+
+  -- 6: left bit, list under 6h bytes
+  abbrev pub badLeft : Bool
+  badLeft = hasLeft (g .edges) && ltb (length (l .left)) (6 * g .h)
+
+  -- 7, 8: a saved sample of the unit's own plane that is padded from lies outside
+  abbrev pub topRows : Operation → ℕ
+  topRows chroma = cond (topIntegrated (g .edges) || hasTop (g .edges)) 2 0
+  topRows luma = cond (topIntegrated (g .edges)) 4 (cond (hasTop (g .edges)) 2 0)
+  topRows user = cond (topIntegrated (g .edges)) 4 (cond (hasTop (g .edges)) 2 0)
+  topRows pretrained = cond (topIntegrated (g .edges)) 4 (cond (hasTop (g .edges)) 2 0)
+
+  abbrev pub badTop : Bool
+  badTop = outside (length (l .top)) (g .topOff) (g .stride) (topRows op) (g .w) (leftOf (border op)) (rightOf (border op))
+
+  abbrev pub bottomRows : ℕ
+  bottomRows = cond (bottomIntegrated (g .edges)) 0 (cond (hasBottom (g .edges)) 2 0)
+
+  abbrev pub badBottom : Bool
+  badBottom = outside (length (l .bottom)) (g .bottomOff) (g .stride) bottomRows (g .w) (leftOf (border op)) (rightOf (border op))
+
+  -- 9: masks: skip under h numbers; noskip under one for each block row (classed)
+  abbrev pub badMasks : Operation → Bool
+  badMasks luma = ltb (length (l .skip)) (g .h)
+  badMasks chroma = ltb (length (l .skip)) (g .h)
+  badMasks user = ltb (length (l .skip)) (g .h) || ltb (length (l .noskip)) (g .h / side)
+  badMasks pretrained = ltb (length (l .skip)) (g .h) || ltb (length (l .noskip)) (g .h / side)
+
+  -- 10: luma filter not 16, chroma not 18 numbers; classed: map not 4,096, an entry past the subclass list, a subclass past the filters, filters not whole sets
+  abbrev pub badClasses : Bool
+  badClasses =
+      not (eqb (length (l .filters) % setSize op) 0) ||
+      not (eqb (length (l .map)) mapSize) ||
+      not (every (λ m. ltb m (length (l .subclass))) (l .map)) ||
+      not (every (λ c. ltb c (length (l .filters) / setSize op)) (l .subclass))
+
+  abbrev pub badFilters : Operation → Bool
+  badFilters luma = not (eqb (length (l .filters)) 16)
+  badFilters chroma = not (eqb (length (l .filters)) 18)
+  badFilters user = badClasses
+  badFilters pretrained = badClasses
+
+  -- 11: chroma: a sample of the luma plane or its saved borders that is padded from lies outside. The lower of two rows under kind 2 is not padded from.
+  abbrev pub lumaRows : ℕ → ℕ
+  lumaRows rows = cond (eqb (g .ssVer) 1 && eqb (g .kind) 2) (rows - 1) rows
+
+  -- luma rows above the unit's first and from it on
+  abbrev pub lumaAbove : ℕ
+  lumaAbove = beside (topIntegrated (g .edges)) (2 * 2 ^ g .ssVer)
+
+  abbrev pub lumaDown : ℕ
+  lumaDown = lumaRows (2 ^ g .ssVer * (g .h + beside (bottomIntegrated (g .edges)) 2))
+
+  abbrev pub lumaOutside : ℕ → ℕ → ℕ → ℕ → Bool
+  lumaOutside len off rows above =
+      outside len off (g .lumaStride) rows (g .w * 2 ^ g .ssHor) (above * g .lumaStride + leftOf 4) (rightOf 4)
+
+  abbrev pub lumaTopRows : ℕ
+  lumaTopRows = cond (topIntegrated (g .edges)) 0 (cond (hasTop (g .edges)) (lumaRows 2) 0)
+
+  abbrev pub badLuma : Operation → Bool
+  badLuma chroma =
+      lumaOutside (length (l .lumaPlane)) (g .lumaOff) lumaDown lumaAbove ||
+      lumaOutside (length (l .lumaTop)) (g .lumaTopOff) lumaTopRows 0 ||
+      lumaOutside (length (l .lumaBottom)) (g .lumaBottomOff) bottomRows 0
+  badLuma luma = false
+  badLuma user = false
+  badLuma pretrained = false
+
+  -- the table, in its order
+  abbrev pub unitChecks : List Check
+  unitChecks =
+      (not (sized widthLimit (g .w)) ⇒ 1) ∷
+      (not (sized heightLimit (g .h)) ⇒ 2) ∷
+      (badStride op ⇒ 3) ∷
+      (badPair op ⇒ 4) ∷
+      (badPlane ⇒ 5) ∷
+      (badLeft ⇒ 6) ∷
+      (badTop ⇒ 7) ∷
+      (badBottom ⇒ 8) ∷
+      (badMasks op ⇒ 9) ∷
+      (badFilters op ⇒ 10) ∷
+      (badLuma op ⇒ 11) ∷
+      []
+
+  -- the status of a unit that is opened
+  unfoldable pub unitStatus : ℕ
+  unitStatus = lowest unitChecks
+
+-- 13, in two parts. The state's shape: of another operation, rows done over h, a row index over 9 or a next row over 8 (chroma: either over 4).
+abbrev pub indexLimit : Operation → ℕ
+indexLimit chroma = 4
+indexLimit luma = 9
+indexLimit user = 9
+indexLimit pretrained = 9
+
+abbrev pub nextLimit : Operation → ℕ
+nextLimit chroma = 4
+nextLimit luma = 8
+nextLimit user = 8
+nextLimit pretrained = 8
+
+-- whether the first n of a list pass a test
+unfoldable pub firstPass : (ℕ → Bool) → ℕ → List ℕ → Bool
+firstPass test zero xs = true
+firstPass test (suc n) xs = firstPass test n xs && test (getD xs n 0)
+
+-- the row indices: ten, each at most a limit
+abbrev pub indicesUpTo : ℕ → List ℕ → Bool
+indicesUpTo limit indices = firstPass (λ i. leb i limit) 10 indices
+
+abbrev pub badShape : Operation → Bool → ℕ → ℕ → List ℕ → ℕ → Bool
+badShape op other done h indices next =
+    other || ltb h done || not (indicesUpTo (indexLimit op) indices) || ltb (nextLimit op) next
+
+-- .. and, classed, a kept class past the filters
+abbrev pub badKept : Operation → List ℕ → ℕ → Bool
+badKept luma classes numbers = false
+badKept chroma classes numbers = false
+badKept user classes numbers = not (firstPass (λ c. ltb c (numbers / setSize user)) 16 classes)
+badKept pretrained classes numbers = not (firstPass (λ c. ltb c (numbers / setSize pretrained)) 16 classes)
+
+-- THE CLASS INDEX: 12 precedes all; then 5 for rows under 760 bytes or a row index over 9, and 9 for noskip under one for each block row
+abbrev pub blockRowLimit : ℕ
+blockRowLimit = 16
+
+abbrev pub rowsSize : ℕ
+rowsSize = 760
+
+abbrev pub classChecks : ℕ → List ℕ → ℕ → ℕ → ℕ → ℕ → List Check
+classChecks rows indices noskip bx by bh =
+    ((ltb lastColumn bx || eqb bh 0 || ltb blockRowLimit bh || leb bh by) ⇒ 12) ∷
+    ((ltb rows rowsSize || not (indicesUpTo 9 indices)) ⇒ 5) ∷
+    (ltb noskip bh ⇒ 9) ∷
+    []
+
+unfoldable pub classStatus : ℕ → List ℕ → ℕ → ℕ → ℕ → ℕ → ℕ
+classStatus rows indices noskip bx by bh = lowest (classChecks rows indices noskip bx by bh)

@@ -1,0 +1,46 @@
+-- Tests over the first n of a list (`firstPass`): a loop that stops at the first that fails, and what a passed test says of each. Assumes nothing.
+use mathlib.Core.Path.{_≡_, refl}
+use mathlib.Core.Bool.{Bool, true, false, _&&_, and-false}
+use mathlib.Core.List.{List}
+use Prim.Native.Nat.{ℕ, zero, suc, _+_, _<_}
+use native.Mathlib.Nat.{not-suc-le-zero}
+use native.Mathlib.Decide.{ℕ-discrete}
+use native.Mathlib.Numerals.{add-one}
+use native.Mathlib.Omega.{arith}
+use lib.ListN.{getD}
+use Rattle.definition.specs.Refusals.{firstPass}
+use Rattle.laws.proofs.Ints.{never}
+
+-- both parts of a conjunction that holds; one that fails fails it
+pub both : (a b : Bool) → (a && b) ≡ true → (a ≡ true) × (b ≡ true)
+both true true e = (refl, refl)
+both true false e = absurd (never e)
+both false b e = absurd (never e)
+
+module _ (test : ℕ → Bool) (xs : List ℕ) where
+  pub pass-none : firstPass test 0 xs ≡ true
+  unfolding firstPass
+  pass-none = refl
+
+  pub pass-more : (n : ℕ) → firstPass test n xs ≡ true → test (getD xs n 0) ≡ true → firstPass test (n + 1) xs ≡ true
+  unfolding firstPass
+  pass-more n h e = rw (add-one n, h, e)
+
+  pub pass-fails : (n k : ℕ) → k < n → test (getD xs k 0) ≡ false → firstPass test n xs ≡ false
+  unfolding firstPass
+  pass-fails zero k h e = absurd (not-suc-le-zero h)
+  pass-fails (suc n) k h e =
+      elim (ℕ-discrete k n) [
+        | yes q ↦ rw (← q, e) (and-false (firstPass test k xs))
+        | no ne ↦ rw (pass-fails n k (omega arith) e)
+      ]
+
+  pub pass-at : (n k : ℕ) → k < n → firstPass test n xs ≡ true → test (getD xs k 0) ≡ true
+  unfolding firstPass
+  pass-at zero k h e = absurd (not-suc-le-zero h)
+  pass-at (suc n) k h e =
+      let p = both (firstPass test n xs) (test (getD xs n 0)) e in
+      elim (ℕ-discrete k n) [
+        | yes q ↦ rw q (p .1)
+        | no ne ↦ pass-at n k (omega arith) (p .0)
+      ]
