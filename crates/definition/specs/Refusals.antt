@@ -54,7 +54,58 @@ badSampling ssHor ssVer kind = ltb 1 ssHor || ltb ssHor ssVer || ltb 2 kind
 abbrev pub beside : Bool → ℕ → ℕ
 beside bit e = cond bit e 0
 
-module _ (op : Operation) (g : Given) (l : Lent) (size : ℕ) where
+-- saved rows that are padded from above: luma 4 where integrated, else 2; chroma 2; none without a top bit
+abbrev pub topRows : Operation → ℕ → ℕ
+topRows chroma edges = cond (topIntegrated edges || hasTop edges) 2 0
+topRows luma edges = cond (topIntegrated edges) 4 (cond (hasTop edges) 2 0)
+topRows user edges = cond (topIntegrated edges) 4 (cond (hasTop edges) 2 0)
+topRows pretrained edges = cond (topIntegrated edges) 4 (cond (hasTop edges) 2 0)
+
+-- .. and below: 2 under the bottom bit, unless it is integrated; then rows of the plane itself
+abbrev pub bottomRows : ℕ → ℕ
+bottomRows edges = cond (bottomIntegrated edges) 0 (cond (hasBottom edges) 2 0)
+
+abbrev pub planeRows : Operation → ℕ → ℕ
+planeRows op edges = beside (bottomIntegrated edges) (border op)
+
+-- what the table asks of all that is lent: lengths, and whether a class map is wrong
+pub record Sizes : Type 0 where
+  pub plane : ℕ
+  pub left : ℕ
+  pub top : ℕ
+  pub bottom : ℕ
+  pub lumaPlane : ℕ
+  pub lumaTop : ℕ
+  pub lumaBottom : ℕ
+  pub skip : ℕ
+  pub noskip : ℕ
+  pub filters : ℕ
+  pub badMap : Bool
+
+-- classed: map not 4,096, an entry past the subclass list, a subclass past the filters
+abbrev pub badMapOf : Operation → Lent → Bool
+badMapOf op l =
+    not (eqb (length (l .map)) mapSize) ||
+    not (every (λ m. ltb m (length (l .subclass))) (l .map)) ||
+    not (every (λ c. ltb c (length (l .filters) / setSize op)) (l .subclass))
+
+abbrev pub sizesOf : Operation → Lent → List ℕ → Sizes
+sizesOf op l plane =
+    record {
+      plane = length plane;
+      left = length (l .left);
+      top = length (l .top);
+      bottom = length (l .bottom);
+      lumaPlane = length (l .lumaPlane);
+      lumaTop = length (l .lumaTop);
+      lumaBottom = length (l .lumaBottom);
+      skip = length (l .skip);
+      noskip = length (l .noskip);
+      filters = length (l .filters);
+      badMap = badMapOf op l;
+    }
+
+module _ (op : Operation) (g : Given) (z : Sizes) where
   -- before and behind a row; e is four for luma rows of a chroma unit too
   abbrev pub leftOf : ℕ → ℕ
   leftOf e = beside (hasLeft (g .edges)) e
@@ -63,11 +114,14 @@ module _ (op : Operation) (g : Given) (l : Lent) (size : ℕ) where
   rightOf e = beside (hasRight (g .edges)) e
 
   -- 3: stride under w, or under w + e with the right bit; a stride (luma's too) over the limit
-  abbrev pub badStride : Operation → Bool
-  badStride chroma = ltb (g .stride) (g .w + rightOf 2) || ltb strideLimit (g .stride) || ltb strideLimit (g .lumaStride)
-  badStride luma = ltb (g .stride) (g .w + rightOf 4) || ltb strideLimit (g .stride)
-  badStride user = ltb (g .stride) (g .w + rightOf 4) || ltb strideLimit (g .stride)
-  badStride pretrained = ltb (g .stride) (g .w + rightOf 4) || ltb strideLimit (g .stride)
+  abbrev pub badLumaStride : Operation → Bool
+  badLumaStride chroma = ltb strideLimit (g .lumaStride)
+  badLumaStride luma = false
+  badLumaStride user = false
+  badLumaStride pretrained = false
+
+  abbrev pub badStride : Bool
+  badStride = ltb (g .stride) (g .w + rightOf (border op)) || ltb strideLimit (g .stride) || badLumaStride op
 
   -- 4: chroma: other pair, or kind not 0 .. 2
   abbrev pub badPair : Operation → Bool
@@ -76,50 +130,37 @@ module _ (op : Operation) (g : Given) (l : Lent) (size : ℕ) where
   badPair user = false
   badPair pretrained = false
 
-  -- 5: a sample of the unit's own plane, of `size` bytes, that is written or padded from lies outside, masked or not
+  -- 5: a sample of the unit's own plane that is written or padded from lies outside, masked or not
   abbrev pub badPlane : Bool
-  badPlane = outside size (g .off) (g .stride) (g .h + beside (bottomIntegrated (g .edges)) (border op)) (g .w) 0 (rightOf (border op))
+  badPlane = outside (z .plane) (g .off) (g .stride) (g .h + planeRows op (g .edges)) (g .w) 0 (rightOf (border op))
 
   -- 6: left bit, list under 6h bytes
   abbrev pub badLeft : Bool
-  badLeft = hasLeft (g .edges) && ltb (length (l .left)) (6 * g .h)
+  badLeft = hasLeft (g .edges) && ltb (z .left) (6 * g .h)
 
   -- 7, 8: a saved sample of the unit's own plane that is padded from lies outside
-  abbrev pub topRows : Operation → ℕ
-  topRows chroma = cond (topIntegrated (g .edges) || hasTop (g .edges)) 2 0
-  topRows luma = cond (topIntegrated (g .edges)) 4 (cond (hasTop (g .edges)) 2 0)
-  topRows user = cond (topIntegrated (g .edges)) 4 (cond (hasTop (g .edges)) 2 0)
-  topRows pretrained = cond (topIntegrated (g .edges)) 4 (cond (hasTop (g .edges)) 2 0)
-
   abbrev pub badTop : Bool
-  badTop = outside (length (l .top)) (g .topOff) (g .stride) (topRows op) (g .w) (leftOf (border op)) (rightOf (border op))
-
-  abbrev pub bottomRows : ℕ
-  bottomRows = cond (bottomIntegrated (g .edges)) 0 (cond (hasBottom (g .edges)) 2 0)
+  badTop = outside (z .top) (g .topOff) (g .stride) (topRows op (g .edges)) (g .w) (leftOf (border op)) (rightOf (border op))
 
   abbrev pub badBottom : Bool
-  badBottom = outside (length (l .bottom)) (g .bottomOff) (g .stride) bottomRows (g .w) (leftOf (border op)) (rightOf (border op))
+  badBottom = outside (z .bottom) (g .bottomOff) (g .stride) (bottomRows (g .edges)) (g .w) (leftOf (border op)) (rightOf (border op))
 
   -- 9: masks: skip under h numbers; noskip under one for each block row (classed)
-  abbrev pub badMasks : Operation → Bool
-  badMasks luma = ltb (length (l .skip)) (g .h)
-  badMasks chroma = ltb (length (l .skip)) (g .h)
-  badMasks user = ltb (length (l .skip)) (g .h) || ltb (length (l .noskip)) (g .h / side)
-  badMasks pretrained = ltb (length (l .skip)) (g .h) || ltb (length (l .noskip)) (g .h / side)
+  abbrev pub badNoskip : Operation → Bool
+  badNoskip luma = false
+  badNoskip chroma = false
+  badNoskip user = ltb (z .noskip) (g .h / side)
+  badNoskip pretrained = ltb (z .noskip) (g .h / side)
 
-  -- 10: luma filter not 16, chroma not 18 numbers; classed: map not 4,096, an entry past the subclass list, a subclass past the filters, filters not whole sets
-  abbrev pub badClasses : Bool
-  badClasses =
-      not (eqb (length (l .filters) % setSize op) 0) ||
-      not (eqb (length (l .map)) mapSize) ||
-      not (every (λ m. ltb m (length (l .subclass))) (l .map)) ||
-      not (every (λ c. ltb c (length (l .filters) / setSize op)) (l .subclass))
+  abbrev pub badMasks : Bool
+  badMasks = ltb (z .skip) (g .h) || badNoskip op
 
+  -- 10: luma filter not 16, chroma not 18 numbers; classed: filters not whole sets of 18 or 13, or the map is wrong
   abbrev pub badFilters : Operation → Bool
-  badFilters luma = not (eqb (length (l .filters)) 16)
-  badFilters chroma = not (eqb (length (l .filters)) 18)
-  badFilters user = badClasses
-  badFilters pretrained = badClasses
+  badFilters luma = not (eqb (z .filters) (setSize luma))
+  badFilters chroma = not (eqb (z .filters) (setSize chroma))
+  badFilters user = not (eqb (z .filters % setSize user) 0) || z .badMap
+  badFilters pretrained = not (eqb (z .filters % setSize pretrained) 0) || z .badMap
 
   -- 11: chroma: a sample of the luma plane or its saved borders that is padded from lies outside. The lower of two rows under kind 2 is not padded from.
   abbrev pub lumaRows : ℕ → ℕ
@@ -141,9 +182,9 @@ module _ (op : Operation) (g : Given) (l : Lent) (size : ℕ) where
 
   abbrev pub badLuma : Operation → Bool
   badLuma chroma =
-      lumaOutside (length (l .lumaPlane)) (g .lumaOff) lumaDown lumaAbove ||
-      lumaOutside (length (l .lumaTop)) (g .lumaTopOff) lumaTopRows 0 ||
-      lumaOutside (length (l .lumaBottom)) (g .lumaBottomOff) bottomRows 0
+      lumaOutside (z .lumaPlane) (g .lumaOff) lumaDown lumaAbove ||
+      lumaOutside (z .lumaTop) (g .lumaTopOff) lumaTopRows 0 ||
+      lumaOutside (z .lumaBottom) (g .lumaBottomOff) (bottomRows (g .edges)) 0
   badLuma luma = false
   badLuma user = false
   badLuma pretrained = false
@@ -153,13 +194,13 @@ module _ (op : Operation) (g : Given) (l : Lent) (size : ℕ) where
   unitChecks =
       (not (sized widthLimit (g .w)) ⇒ 1) ∷
       (not (sized heightLimit (g .h)) ⇒ 2) ∷
-      (badStride op ⇒ 3) ∷
+      (badStride ⇒ 3) ∷
       (badPair op ⇒ 4) ∷
       (badPlane ⇒ 5) ∷
       (badLeft ⇒ 6) ∷
       (badTop ⇒ 7) ∷
       (badBottom ⇒ 8) ∷
-      (badMasks op ⇒ 9) ∷
+      (badMasks ⇒ 9) ∷
       (badFilters op ⇒ 10) ∷
       (badLuma op ⇒ 11) ∷
       []

@@ -1,10 +1,10 @@
 -- Bounds on integers, by their absolute value, and what the machine reads back from their bits.
 -- Assumes nothing.
-use mathlib.Core.Path.{_≡_, refl}
+use mathlib.Core.Path.{_≡_, refl, ap}
 use mathlib.Core.Bool.{Bool, true, false, not, cond}
 use Prim.Native.Nat.{ℕ, zero, suc, _+_, _-_, _*_, _^_, _<_, _≤_, suc-le-suc}
 use native.Mathlib.Omega.{arith}
-use native.Mathlib.Nat.{lt-of-le-of-lt, mul-le-mul, not-le-of-lt, div-le-self}
+use native.Mathlib.Nat.{lt-of-le-of-lt, mul-le-mul, not-le-of-lt, div-le-self, not-suc-le-zero}
 use lib.Dec.{T, ltb, ltb→lt, nltb→le}
 use lib.IntN.{ℤ, pos, negsuc, negℤ, natAbs, subℕ, _+ℤ_, _-ℤ_, _*ℤ_}
 use lib.Signed.{mag, nonNeg, shrZ}
@@ -68,3 +68,16 @@ abs-shr (negsuc n) m = suc-le-suc (div-le-self n m)
 
 pub never : false ≡ true → ⊥
 never e = let z : _≡_ {A = ℕ} 0 1 = cc in omega arith
+
+-- a - b, where b is at most a, and where it is over a
+pub sub-pos : (a b : ℕ) → b ≤ a → pos a -ℤ pos b ≡ pos (a - b)
+sub-pos a zero h = ap pos (omega arith)
+sub-pos a (suc b) h = sub-cases a (suc b) (λ (z : ℤ). z ≡ pos (a - suc b)) (λ l. absurd (not-le-of-lt l h)) (λ l. refl)
+
+pub sub-neg : (a b : ℕ) → a < b → pos a -ℤ pos b ≡ negsuc (b - suc a)
+sub-neg a zero h = absurd (not-suc-le-zero h)
+sub-neg a (suc b) h = sub-cases a (suc b) (λ (z : ℤ). z ≡ negsuc (suc b - suc a)) (λ l. refl) (λ l. absurd (not-le-of-lt h l))
+
+-- n places before a, where there are so many
+pub before-pos : (a n : ℕ) → n < a → pos a +ℤ negsuc n ≡ pos (a - suc n)
+before-pos a n h = sub-cases a (suc n) (λ (z : ℤ). z ≡ pos (a - suc n)) (λ l. absurd (not-le-of-lt l h)) (λ l. refl)

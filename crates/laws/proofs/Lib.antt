@@ -6,3 +6,4 @@ pub mod Lists
 pub mod Tables
 pub mod Passes
 pub mod Tests
+pub mod Checks

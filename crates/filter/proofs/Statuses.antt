@@ -1,0 +1,98 @@
+-- What a status of 0 says: each test passed, so the runs stay inside. Assumes nothing.
+use mathlib.Core.Path.{_≡_, refl}
+use mathlib.Core.Bool.{Bool, true, false, _&&_}
+use mathlib.Core.List.{List}
+use Prim.Native.Nat.{ℕ, _+_, _*_, _≤_, _<_}
+use native.Mathlib.Omega.{arith}
+use native.Mathlib.Nat.{mul-le-mul, le-refl, mul-comm}
+use lib.Dec.{leb}
+use lib.ListN.{length, getD}
+use borrow.Author.Tests.{leb-true}
+use Rattle.definition.specs.Rows.{outsideUnless}
+use Rattle.definition.specs.Refusals.{indicesUpTo}
+use Rattle.laws.proofs.Passes.{both, pass-at}
+use Rattle.filter.specs.Runs.{runStatus, uvStatus, windowInside}
+use Rattle.filter.specs.Windows.{ownInside, Rows, Window}
+
+inside : (b : Bool) → outsideUnless b ≡ 0 → b ≡ true
+inside true e = refl
+inside false e = absurd (omega arith)
+
+-- ten indices up to a limit lead to rows that lie inside, where limit + 1 rows do
+rows-inside : (first size limit : ℕ) (rows indices : List ℕ) → first + size * limit + size ≤ length rows → indicesUpTo limit indices ≡ true → Rows first size rows indices
+rows-inside first size limit rows indices room e =
+    record {
+      inside = λ j h.
+          let i : getD indices j 0 ≤ limit = leb-true (getD indices j 0) limit (pass-at (λ i. leb i limit) indices 10 j h e) in
+          omega (arith, mul-le-mul (le-refl size) i);
+    }
+
+window-room : (size e col0 n : ℕ) → windowInside size e col0 n ≡ true → (e ≤ col0) × (col0 + n + e ≤ size)
+window-room size e col0 n h =
+    let p = both (leb e col0) (leb (col0 + n + e) size) h in
+    (leb-true e col0 (p .0), leb-true (col0 + n + e) size (p .1))
+
+-- what the tests that the runs share say
+module _ (dst rows : ℕ) (indices : List ℕ) (col0 n size limit e : ℕ) (h : ownInside dst rows indices col0 n size limit e ≡ true) where
+  four : (leb n dst && leb size rows && indicesUpTo limit indices ≡ true) × (windowInside 76 e col0 n ≡ true)
+  four = both (leb n dst && leb size rows && indicesUpTo limit indices) (windowInside 76 e col0 n) h
+
+  three : (leb n dst && leb size rows ≡ true) × (indicesUpTo limit indices ≡ true)
+  three = both (leb n dst && leb size rows) (indicesUpTo limit indices) (four .0)
+
+  pub own-room : n ≤ dst
+  own-room = leb-true n dst (both (leb n dst) (leb size rows) (three .0) .0)
+
+  own-long : size ≤ rows
+  own-long = leb-true size rows (both (leb n dst) (leb size rows) (three .0) .1)
+
+  pub own-window : (e ≤ col0) × (col0 + n + e ≤ 76)
+  own-window = window-room 76 e col0 n (four .1)
+
+-- a run over its own rows: the luma and the pretrained one are no more than that
+pub record OwnInside (e dst : ℕ) (rows indices : List ℕ) (col0 n : ℕ) : Type 0 where
+  pub room : n ≤ dst
+  pub windows : (x : ℕ) → x < n → Window 0 76 e rows indices (col0 + x)
+  pub right : col0 + n ≤ 76
+
+own : (dst : ℕ) (rows indices : List ℕ) (col0 n size limit e : ℕ) → 76 * limit + 76 ≤ size → ownInside dst (length rows) indices col0 n size limit e ≡ true → OwnInside e dst rows indices col0 n
+own dst rows indices col0 n size limit e s h =
+    let r = own-window dst (length rows) indices col0 n size limit e h in
+    let long = own-long dst (length rows) indices col0 n size limit e h in
+    let up = three dst (length rows) indices col0 n size limit e h .1 in
+    record {
+      room = own-room dst (length rows) indices col0 n size limit e h;
+      windows = λ x l. record { inside = rows-inside 0 76 limit rows indices (omega (arith, long)) up; left = omega (arith, r .0); right = omega (arith, r .1) };
+      right = omega (arith, r .1);
+    }
+
+pub run-inside : (dst : ℕ) (rows indices : List ℕ) (col0 n : ℕ) → runStatus dst (length rows) indices col0 n ≡ 0 → OwnInside 4 dst rows indices col0 n
+unfolding runStatus
+run-inside dst rows indices col0 n e = own dst rows indices col0 n 760 9 4 (omega arith) (inside (ownInside dst (length rows) indices col0 n 760 9 4) e)
+
+-- the chroma run has a window of luma too; a tap of luma reaches 2 chroma columns
+pub record UvInside (dst : ℕ) (rows indices : List ℕ) (col0 lcol0 step n : ℕ) : Type 0 where
+  pub itself : OwnInside 2 dst rows indices col0 n
+  pub small : step ≤ 2
+  pub lumaWindows : (x : ℕ) → x < n → Window 380 140 (2 * step) rows indices (lcol0 + x * step)
+
+luma-right : (lcol0 step n x : ℕ) → step ≤ 2 → x < n → lcol0 + step * n + 4 ≤ 140 → lcol0 + x * step + 2 * step < 140
+luma-right lcol0 step n x small h r = omega (arith, mul-le-mul h (le-refl step), mul-comm step n)
+
+pub uv-inside : (dst : ℕ) (rows indices : List ℕ) (col0 lcol0 step n : ℕ) → uvStatus dst (length rows) indices col0 lcol0 step n ≡ 0 → UvInside dst rows indices col0 lcol0 step n
+unfolding uvStatus
+uv-inside dst rows indices col0 lcol0 step n e =
+    let o = ownInside dst (length rows) indices col0 n 1080 4 2 in
+    let l = windowInside 140 4 lcol0 (step * n) in
+    let p = both (o && leb step 2) l (inside (o && leb step 2 && l) e) in
+    let q = both o (leb step 2) (p .0) in
+    let small = leb-true step 2 (q .1) in
+    let r = window-room 140 4 lcol0 (step * n) (p .1) in
+    let long = own-long dst (length rows) indices col0 n 1080 4 2 (q .0) in
+    let up = three dst (length rows) indices col0 n 1080 4 2 (q .0) .1 in
+    record {
+      itself = own dst rows indices col0 n 1080 4 2 (omega arith) (q .0);
+      small = small;
+      lumaWindows = λ x h.
+          record { inside = rows-inside 380 140 4 rows indices (omega (arith, long)) up; left = omega (arith, r .0, small); right = luma-right lcol0 step n x small h (r .1) };
+    }

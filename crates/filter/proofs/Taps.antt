@@ -1,0 +1,65 @@
+-- What the taps of the four filters share: where a tap of a table leads, and a sum with one tap more. Assumes nothing.
+use mathlib.Core.Path.{_≡_, _∙_}
+use mathlib.Core.List.{List, []}
+use Prim.Native.Nat.{ℕ, _+_, _*_, _^_, _≤_, _<_}
+use native.Mathlib.Omega.{arith}
+use lib.Dec.{T}
+use lib.IntN.{ℤ, pos, negℤ, natAbs, _+ℤ_, _-ℤ_, _*ℤ_}
+use lib.Signed.{mag}
+use mir.Syntax.{w8, w32}
+use mir.Val.{SFits, toZ, ofZ}
+use mir.Facts.{toZ-ofZ}
+use Rattle.definition.specs.Sample.{dyOf, dxOf, pairOf, centre, nsTap}
+use Rattle.laws.proofs.Ints.{sfits-abs}
+use Rattle.laws.proofs.Tables.{all, near, near-at}
+use Rattle.laws.proofs.Sums.{begun, tapped, passed}
+use Rattle.filter.specs.Windows.{Window, Spot, PairAt, Summed}
+
+-- a tap within reach of a window
+pub spot : {first size reach mid : ℕ} {rows indices : List ℕ} {col : ℕ} {dy dx : ℤ} →
+    Window first size reach rows indices col → size < 2 ^ 16 → natAbs dy ≤ mid → mid + natAbs dy < 10 → natAbs dx ≤ reach → Spot size mid col dy dx
+spot {reach = reach} {dx = dx} w s u d x =
+    record { rowUp = u; rowDown = d; colLeft = omega (arith, w .left); colRight = omega (arith, w .right); small = s }
+
+-- a tap of a table whose taps reach at most 4, as the machine holds it
+module _ (reach : ℕ) (taps : List (List ℤ)) (e : T (near reach [])) (t : T (all (near reach) taps)) (r : reach ≤ 4) (k : ℕ) where
+  pub dy-is : toZ w8 (ofZ w8 (dyOf taps k)) ≡ dyOf taps k
+  dy-is = toZ-ofZ (sfits-abs (omega (arith, near-at reach taps e t k .0)))
+
+  dx-is : toZ w8 (ofZ w8 (dxOf taps k)) ≡ dxOf taps k
+  dx-is = toZ-ofZ (sfits-abs (omega (arith, near-at reach taps e t k .1)))
+
+  pub tap-spot : {mid : ℕ} {rows indices : List ℕ} {col : ℕ} → Window 0 76 reach rows indices col → reach ≤ mid → mid + reach < 10 →
+      Spot 76 mid col (toZ w8 (ofZ w8 (dyOf taps k))) (toZ w8 (ofZ w8 (dxOf taps k)))
+  tap-spot w u d =
+      rw (dy-is, dx-is) (spot w (omega arith) (omega (arith, near-at reach taps e t k .0)) (omega (arith, near-at reach taps e t k .0)) (near-at reach taps e t k .1))
+
+  pub pair-is : {s : ℤ → ℤ → ℕ} {p : ℕ} → PairAt s (toZ w8 (ofZ w8 (dyOf taps k))) (toZ w8 (ofZ w8 (dxOf taps k))) p → p ≡ pairOf s taps k
+  pair-is {s} h = h .is ∙ (λ i. s (dy-is i) (dx-is i) + s (negℤ (dy-is i)) (negℤ (dx-is i)))
+
+module _ {W : Type 0} {C : ℤ} {f : ℕ → ℤ} {B D : ℕ} where
+  -- before the first tap
+  pub started : {s : ℤ} → W → mag s < 2 ^ 31 → (s ≡ C) × (natAbs s ≤ B) → Summed W C f B D 0 (toZ w32 (ofZ w32 s))
+  started w ok e = record { window = w; sum = passed ok (begun (e .0) (e .1)) }
+
+  -- the sum that a call gave, as the machine passes it on
+  pub onward : {k : ℕ} {s : ℤ} → mag s < 2 ^ 31 → Summed W C f B D k s → Summed W C f B D k (toZ w32 (ofZ w32 s))
+  onward ok h = record { window = h .window; sum = passed ok (h .sum) }
+
+  -- one tap more, by a call that was given what the machine holds of the sum
+  pub stepped : {k : ℕ} {s r : ℤ} → Summed W C f B D k s → SFits w32 s → mag r < 2 ^ 31 →
+      r ≡ toZ w32 (ofZ w32 s) +ℤ f k → natAbs r ≤ natAbs (toZ w32 (ofZ w32 s)) + D → Summed W C f B D (k + 1) (toZ w32 (ofZ w32 r))
+  stepped h fits ok e b =
+      record { window = h .window; sum = passed ok (tapped (h .sum) (rw (toZ-ofZ fits) at e) (rw (toZ-ofZ fits) at b)) }
+
+-- the luma and the chroma filter's own taps: what the calls of one step gave
+module _ (reach : ℕ) (taps : List (List ℤ)) (e : T (near reach [])) (t : T (all (near reach) taps)) (small : reach ≤ 4) where
+  pub ns-stepped : (c : ℕ → ℤ) {W : Type 0} {C : ℤ} {at : ℤ → ℤ → ℕ} {B D k : ℕ} {s r : ℤ} {p m : ℕ} →
+      Summed W C (nsTap at c taps) B D k s → SFits w32 s → PairAt at (toZ w8 (ofZ w8 (dyOf taps k))) (toZ w8 (ofZ w8 (dxOf taps k))) p → m ≡ centre at →
+      mag (c k) < 2 ^ 7 → mag r < 2 ^ 31 →
+      (r ≡ toZ w32 (ofZ w32 s) +ℤ (pos p -ℤ pos (2 * m)) *ℤ toZ w8 (ofZ w8 (c k))) × (natAbs r ≤ natAbs (toZ w32 (ofZ w32 s)) + D) →
+      Summed W C (nsTap at c taps) B D (k + 1) (toZ w32 (ofZ w32 r))
+  ns-stepped c {k = k} {s = s} h fits pair m-is c-fits ok given =
+      let p-is = pair-is reach taps e t small k pair in
+      let c-is = toZ-ofZ {w = w8} {z = c k} (record { sfits = c-fits }) in
+      stepped h fits ok (given .0 ∙ (λ i. toZ w32 (ofZ w32 s) +ℤ (pos (p-is i) -ℤ pos (2 * m-is i)) *ℤ c-is i)) (given .1)

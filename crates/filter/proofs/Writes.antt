@@ -1,0 +1,35 @@
+-- What the three runs share: a loop that stores f 0, f 1, .. from the start of the destination on, and what is left of it at the end. Assumes nothing.
+use mathlib.Core.Path.{_≡_, refl, ap, _∙_}
+use mathlib.Core.List.{List}
+use Prim.Native.Nat.{ℕ, zero, suc, _+_, _≤_, _<_, zero-le}
+use native.Mathlib.Nat.{zero-add}
+use native.Mathlib.Omega.{arith}
+use lib.ListN.{length, set}
+use lib.Seq.{sets, length-sets}
+use Rattle.definition.specs.Rows.{tab, unlessRefused}
+use Rattle.laws.proofs.Lists.{sets-more}
+
+-- after x turns of n, d is what was written over d₀; `asked` is what each turn may use
+pub record Writing (asked : Type 0) (f : ℕ → ℕ) (d₀ : List ℕ) (n : ℕ) (d : List ℕ) (x : ℕ) : Type 0 where
+  pub inside : asked
+  pub turns : x ≤ n
+  pub is : d ≡ sets d₀ 0 (tab x f)
+
+pub none-yet : {asked : Type 0} {f : ℕ → ℕ} {d₀ : List ℕ} {n : ℕ} → asked → Writing asked f d₀ n d₀ 0
+none-yet w = record { inside = w; turns = zero-le; is = refl }
+
+module _ {asked : Type 0} {f : ℕ → ℕ} {d₀ : List ℕ} {n : ℕ} {d : List ℕ} {x : ℕ} (h : Writing asked f d₀ n d x) where
+  pub same : length d ≡ length d₀
+  same = ap length (h .is) ∙ length-sets d₀ 0 (tab x f)
+
+  pub one-more : {v : ℕ} → x < n → v ≡ f x → Writing asked f d₀ n (set d x v) (x + 1)
+  one-more l e = record { inside = h .inside; turns = omega arith; is = rw (h .is, e) (rw (zero-add x) at (sets-more x d₀ 0 f)) }
+
+  -- at the end, under a status of 0
+  pub written : {status : ℕ} → status ≡ 0 → n ≤ x → d ≡ unlessRefused status d₀ (sets d₀ 0 (tab n f))
+  written z l = let e : x ≡ n = omega (arith, h .turns) in rw (z, ← e) (h .is)
+
+-- a run that is refused leaves the destination
+pub refused : (status : ℕ) (d w : List ℕ) → (status ≡ 0 → ⊥) → d ≡ unlessRefused status d w
+refused zero d w h = absurd (h refl)
+refused (suc s) d w h = refl

@@ -1,0 +1,69 @@
+-- What the private functions of the runs ask: rows that the indices do not lead out of, and a tap that stays in its row.
+use Prim.Native.Nat.{ℕ, _+_, _*_, _^_, _≤_, _<_}
+use mathlib.Core.Bool.{Bool, _&&_}
+use mathlib.Core.List.{List}
+use lib.Dec.{leb}
+use mathlib.Core.Path.{_≡_}
+use lib.IntN.{ℤ, pos, negℤ, natAbs, _*ℤ_}
+use Rattle.definition.specs.Rows.{rowBytes, lumaFlat, chromaFlat, chromaLumaFlat}
+use Rattle.definition.specs.Refusals.{indicesUpTo}
+use Rattle.definition.specs.Sample.{centre, nsTap, pcTap, lumaTap, nsConfigY, nsConfigUv}
+use Rattle.laws.proofs.Sums.{Partial}
+use Rattle.filter.specs.Runs.{coefficients, windowInside}
+use lib.ListN.{length, getD}
+
+-- the tests that the runs share, against rows of `size` bytes to which indices up to a limit lead
+abbrev pub ownInside : ℕ → ℕ → List ℕ → ℕ → ℕ → ℕ → ℕ → ℕ → Bool
+ownInside dst rows indices col0 n size limit e = leb n dst && leb size rows && indicesUpTo limit indices && windowInside rowBytes e col0 n
+
+-- the ten indices lead to rows of `size` bytes, from `first` on, that lie inside
+pub record Rows (first size : ℕ) (rows indices : List ℕ) : Type 0 where
+  pub inside : (j : ℕ) → j < 10 → first + size * getD indices j 0 + size ≤ length rows
+
+-- a tap of at most 4 rows and columns that leads neither out of the ten indices nor out of the row
+pub record Spot (size mid col : ℕ) (dy dx : ℤ) : Type 0 where
+  pub rowUp : natAbs dy ≤ mid
+  pub rowDown : mid + natAbs dy < 10
+  pub colLeft : natAbs dx ≤ col
+  pub colRight : col + natAbs dx < size
+  pub small : size < 2 ^ 16
+
+-- a + b, which is at most twice a byte
+pub record PairAt (s : ℤ → ℤ → ℕ) (dy dx : ℤ) (r : ℕ) : Type 0 where
+  pub is : r ≡ s dy dx + s (negℤ dy) (negℤ dx)
+  pub bound : r ≤ 510
+
+-- the bytes from `reach` before byte col to `reach` behind it lie in each of those rows
+pub record Window (first size reach : ℕ) (rows indices : List ℕ) (col : ℕ) : Type 0 where
+  pub inside : Rows first size rows indices
+  pub left : reach ≤ col
+  pub right : col + reach < size
+
+-- a sum that is taken tap by tap, with what its taps ask
+pub record Summed (asked : Type 0) (C : ℤ) (f : ℕ → ℤ) (B D k : ℕ) (s : ℤ) : Type 0 where
+  pub window : asked
+  pub sum : Partial C f B D k s
+
+-- the sum of each filter after k of its taps
+module _ (rows indices : List ℕ) (col : ℕ) (filter : List ℤ) where
+  abbrev pub LumaPartial : ℕ → ℤ → Type 0
+  LumaPartial =
+      Summed (Window 0 76 4 rows indices col)
+      (pos (128 * centre (lumaFlat rows indices col))) (nsTap (lumaFlat rows indices col) (coefficients filter) nsConfigY) 32640 130560
+
+  abbrev pub PretrainedPartial : ℕ → ℤ → Type 0
+  PretrainedPartial =
+      Summed (Window 0 76 4 rows indices col)
+      (pos (centre (lumaFlat rows indices col)) *ℤ coefficients filter 12) (pcTap (lumaFlat rows indices col) (coefficients filter)) 8355840 16711680
+
+  abbrev pub ChromaPartial : ℕ → ℤ → Type 0
+  ChromaPartial =
+      Summed (Window 0 76 2 rows indices col)
+      (pos (128 * centre (chromaFlat rows indices col))) (nsTap (chromaFlat rows indices col) (coefficients filter) nsConfigUv) 32640 130560
+
+-- the taps of luma are added up by themselves
+module _ (rows indices : List ℕ) (lcol step : ℕ) (filter : List ℤ) where
+  abbrev pub FromLumaPartial : ℕ → ℤ → Type 0
+  FromLumaPartial =
+      Summed (Window 380 140 (2 * step) rows indices lcol × (step ≤ 2))
+      (pos 0) (lumaTap (chromaLumaFlat rows indices lcol) step (coefficients filter)) 0 65280

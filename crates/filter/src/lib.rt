@@ -1,0 +1,437 @@
+// filter.rs: the three filter runs. Each writes the restored samples of one stretch into the part of the plane that it is lent.
+// Rows are one flat array of padded rows, reached by ten row indices. Small arrays are copied to locals before a loop, so that
+// a store to the destination cannot be taken to change them.
+ghost use mathlib.Core.Path.{_≡_};
+ghost use Prim.Native.Nat.{_+_, _*_, _^_, _<_, _≤_};
+ghost use lib.IntN.{pos, natAbs, _+ℤ_, _-ℤ_, _*ℤ_};
+ghost use lib.ListN.{length};
+ghost use Rattle.definition.specs.Rows.{flatAround, chromaFlat, chromaLumaFlat};
+ghost use Rattle.definition.specs.Sample.{limit8, rounded, centre, chromaSum};
+ghost use Rattle.filter.specs.Runs.{runStatus, uvStatus, lumaRun, pretrainedRun, chromaRun, coefficients};
+ghost use Rattle.filter.specs.Windows.{ownInside, Rows, Window, Spot, PairAt, LumaPartial, PretrainedPartial, ChromaPartial, FromLumaPartial};
+use tables::PC_WIENER_CONFIG;
+use tables::WIENER_NS_CONFIG_UV;
+use tables::WIENER_NS_CONFIG_UV_FROM_Y;
+use tables::WIENER_NS_CONFIG_Y;
+
+const ROW_BYTES: usize = 76;
+
+const LUMA_ROW_BYTES: usize = 140;
+
+const LUMA_ROWS_AT: usize = 380;
+
+// (s + 64) >> 7, clipped to a byte: the rounding of all three filters.
+fn round_clip(s: i32) -> u8
+    requires { ⌜ natAbs s < 2 ^ 30 ⌝ }
+    ensures { λ r. ⌜ r ≡ rounded limit8 s ⌝ }
+{
+    let v = (s + 64) >> 7;
+    if v < 0 {
+        return 0;
+    }
+    if v > 255 {
+        return 255;
+    }
+    v as u8
+}
+
+// Whether the n samples from byte col0 on lie in the destination, and with e columns on both sides in the rows: `size` bytes, to
+// which indices up to a limit lead.
+fn own_inside(
+    dst: usize,
+    rows: usize,
+    indices: &[usize; 10],
+    col0: usize,
+    n: usize,
+    size: usize,
+    limit: usize,
+    e: usize,
+) -> bool
+    ensures { λ r. ⌜ r ≡ ownInside dst rows (now (indices .entry)) col0 n size limit e ⌝ }
+{
+    if dst < n {
+        return false;
+    }
+    if rows < size {
+        return false;
+    }
+    if !bounds::indices_up_to(indices, limit) {
+        return false;
+    }
+    if col0 < e {
+        return false;
+    }
+    bounds::room(col0, n, e, ROW_BYTES)
+}
+
+fn run_status(dst: usize, rows: usize, indices: &[usize; 10], col0: usize, n: usize) -> u8
+    ensures { λ r. ⌜ r ≡ runStatus dst rows (now (indices .entry)) col0 n ⌝ }
+{
+    if !own_inside(dst, rows, indices, col0, n, 760, 9, 4) {
+        return 5;
+    }
+    0
+}
+
+// The place d further than at.
+fn moved(at: usize, d: i8) -> usize
+    requires { ⌜ (natAbs d ≤ at) × (at < 2 ^ 20) ⌝ }
+    ensures { λ r. ⌜ r ≡ natAbs (pos at +ℤ d) ⌝ }
+{
+    (at as i32 + d as i32) as usize
+}
+
+// The byte dy rows and dx columns from byte col of the row that index mid leads to.
+fn byte_at(
+    rows: &[u8],
+    indices: &[usize; 10],
+    first: usize,
+    size: usize,
+    mid: usize,
+    col: usize,
+    dy: i8,
+    dx: i8,
+) -> u8
+    requires { ⌜ Rows first size (now rows) (now indices) ⌝ }
+    requires { ⌜ Spot size mid col dy dx ⌝ }
+    ensures { λ r. ⌜ r ≡ flatAround first size mid (now (rows .entry)) (now (indices .entry)) col dy dx ⌝ }
+{
+    let row = indices[moved(mid, dy)];
+    rows[first + size * row + moved(col, dx)]
+}
+
+// The sum of the bytes at (+dy, +dx) and at (-dy, -dx) from byte col of the row that index mid leads to.
+fn pair_at(rows: &[u8], indices: &[usize; 10], mid: usize, col: usize, dy: i8, dx: i8) -> u32
+    requires { ⌜ Rows 0 76 (now rows) (now indices) ⌝ }
+    requires { ⌜ Spot 76 mid col dy dx ⌝ }
+    ensures { λ r. ⌜ PairAt (flatAround 0 76 mid (now (rows .entry)) (now (indices .entry)) col) dy dx r ⌝ }
+{
+    let a = byte_at(rows, indices, 0, ROW_BYTES, mid, col, dy, dx);
+    let b = byte_at(rows, indices, 0, ROW_BYTES, mid, col, 0 - dy, 0 - dx);
+    a as u32 + b as u32
+}
+
+// s + (p - 2m) c
+fn ns_tap(s: i32, p: u32, m: u8, c: i8) -> i32
+    requires { ⌜ (natAbs s < 2 ^ 30) × (p ≤ 510) ⌝ }
+    ensures { λ r. ⌜ (r ≡ s +ℤ (pos p -ℤ pos (2 * m)) *ℤ c) × (natAbs r ≤ natAbs s + 130560) ⌝ }
+{
+    s + (p as i32 - 2 * m as i32) * c as i32
+}
+
+// s + p c
+fn pc_tap(s: i32, p: u32, c: i16) -> i32
+    requires { ⌜ (natAbs s < 2 ^ 30) × (p ≤ 510) ⌝ }
+    ensures { λ r. ⌜ (r ≡ s +ℤ pos p *ℤ c) × (natAbs r ≤ natAbs s + 16711680) ⌝ }
+{
+    s + p as i32 * c as i32
+}
+
+// s + (v - m) c
+fn luma_tap(s: i32, v: u8, m: u8, c: i8) -> i32
+    requires { ⌜ natAbs s < 2 ^ 30 ⌝ }
+    ensures { λ r. ⌜ (r ≡ s +ℤ (pos v -ℤ pos m) *ℤ c) × (natAbs r ≤ natAbs s + 65280) ⌝ }
+{
+    s + (v as i32 - m as i32) * c as i32
+}
+
+// 128 times the centre, from which the luma and chroma filters start.
+fn ns_start(rows: &[u8], indices: &[usize; 10], mid: usize, col: usize) -> i32
+    requires { ⌜ Rows 0 76 (now rows) (now indices) ⌝ }
+    requires { ⌜ (mid < 10) × (col < 76) ⌝ }
+    ensures { λ r. ⌜ (r ≡ pos (128 * centre (flatAround 0 76 mid (now (rows .entry)) (now (indices .entry)) col))) × (natAbs r ≤ 32640) ⌝ }
+{
+    128 * byte_at(rows, indices, 0, ROW_BYTES, mid, col, 0, 0) as i32
+}
+
+// One tap more of the luma filter.
+fn y_step(
+    s: i32,
+    rows: &[u8],
+    indices: &[usize; 10],
+    col: usize,
+    filter: &[i8; 16],
+    k: usize,
+) -> i32
+    requires { ⌜ k < 16 ⌝ }
+    requires { ⌜ LumaPartial (now rows) (now indices) col (now filter) k s ⌝ }
+    ensures { λ r. ⌜ LumaPartial (now (rows .entry)) (now (indices .entry)) col (now (filter .entry)) (k + 1) r ⌝ }
+{
+    let t = WIENER_NS_CONFIG_Y[k];
+    let p = pair_at(rows, indices, 4, col, t[0], t[1]);
+    let m = byte_at(rows, indices, 0, ROW_BYTES, 4, col, 0, 0);
+    ns_tap(s, p, m, filter[k])
+}
+
+// The sum that one sample of the luma filter rounds. The taps are written out: so the table is folded away.
+fn y_sum(rows: &[u8], indices: &[usize; 10], col: usize, filter: &[i8; 16]) -> i32
+    requires { ⌜ Window 0 76 4 (now rows) (now indices) col ⌝ }
+    ensures { λ r. ⌜ LumaPartial (now (rows .entry)) (now (indices .entry)) col (now (filter .entry)) 16 r ⌝ }
+{
+    let s0 = ns_start(rows, indices, 4, col);
+    let s1 = y_step(s0, rows, indices, col, filter, 0);
+    let s2 = y_step(s1, rows, indices, col, filter, 1);
+    let s3 = y_step(s2, rows, indices, col, filter, 2);
+    let s4 = y_step(s3, rows, indices, col, filter, 3);
+    let s5 = y_step(s4, rows, indices, col, filter, 4);
+    let s6 = y_step(s5, rows, indices, col, filter, 5);
+    let s7 = y_step(s6, rows, indices, col, filter, 6);
+    let s8 = y_step(s7, rows, indices, col, filter, 7);
+    let s9 = y_step(s8, rows, indices, col, filter, 8);
+    let s10 = y_step(s9, rows, indices, col, filter, 9);
+    let s11 = y_step(s10, rows, indices, col, filter, 10);
+    let s12 = y_step(s11, rows, indices, col, filter, 11);
+    let s13 = y_step(s12, rows, indices, col, filter, 12);
+    let s14 = y_step(s13, rows, indices, col, filter, 13);
+    let s15 = y_step(s14, rows, indices, col, filter, 14);
+    y_step(s15, rows, indices, col, filter, 15)
+}
+
+// The n samples from byte col0 on, restored by a luma filter or by the first 16 numbers of a user set.
+pub fn ns_wiener_fir_run(
+    dst: &mut [u8],
+    rows: &[u8],
+    indices: &[usize; 10],
+    col0: usize,
+    filter: &[i8; 16],
+    n: usize,
+) -> u8
+    ensures { λ r. ⌜ r ≡ runStatus (length (now (dst .entry))) (length (now (rows .entry))) (now (indices .entry)) col0 n ⌝ }
+    ensures { λ _. ⌜ now (dst .exit) ≡ lumaRun (now (dst .entry)) (now (rows .entry)) (now (indices .entry)) col0 (now (filter .entry)) n ⌝ }
+{
+    let status = run_status(dst.len(), rows.len(), indices, col0, n);
+    if status != 0 {
+        return status;
+    }
+    let ix = *indices;
+    let f = *filter;
+    let mut x = 0;
+    while x < n {
+        dst[x] = round_clip(y_sum(rows, &ix, col0 + x, &f));
+        x += 1;
+    }
+    0
+}
+
+// The centre times the last number of a pretrained set.
+fn pc_start(rows: &[u8], indices: &[usize; 10], col: usize, filter: &[i16; 13]) -> i32
+    requires { ⌜ Window 0 76 4 (now rows) (now indices) col ⌝ }
+    ensures { λ r. ⌜ PretrainedPartial (now (rows .entry)) (now (indices .entry)) col (now (filter .entry)) 0 r ⌝ }
+{
+    byte_at(rows, indices, 0, ROW_BYTES, 4, col, 0, 0) as i32 * filter[12] as i32
+}
+
+// One tap more of a pretrained filter.
+fn pc_step(
+    s: i32,
+    rows: &[u8],
+    indices: &[usize; 10],
+    col: usize,
+    filter: &[i16; 13],
+    k: usize,
+) -> i32
+    requires { ⌜ k < 12 ⌝ }
+    requires { ⌜ PretrainedPartial (now rows) (now indices) col (now filter) k s ⌝ }
+    ensures { λ r. ⌜ PretrainedPartial (now (rows .entry)) (now (indices .entry)) col (now (filter .entry)) (k + 1) r ⌝ }
+{
+    let t = PC_WIENER_CONFIG[k];
+    let p = pair_at(rows, indices, 4, col, t[0], t[1]);
+    pc_tap(s, p, filter[k])
+}
+
+fn pc_sum(rows: &[u8], indices: &[usize; 10], col: usize, filter: &[i16; 13]) -> i32
+    requires { ⌜ Window 0 76 4 (now rows) (now indices) col ⌝ }
+    ensures { λ r. ⌜ PretrainedPartial (now (rows .entry)) (now (indices .entry)) col (now (filter .entry)) 12 r ⌝ }
+{
+    let s0 = pc_start(rows, indices, col, filter);
+    let s1 = pc_step(s0, rows, indices, col, filter, 0);
+    let s2 = pc_step(s1, rows, indices, col, filter, 1);
+    let s3 = pc_step(s2, rows, indices, col, filter, 2);
+    let s4 = pc_step(s3, rows, indices, col, filter, 3);
+    let s5 = pc_step(s4, rows, indices, col, filter, 4);
+    let s6 = pc_step(s5, rows, indices, col, filter, 5);
+    let s7 = pc_step(s6, rows, indices, col, filter, 6);
+    let s8 = pc_step(s7, rows, indices, col, filter, 7);
+    let s9 = pc_step(s8, rows, indices, col, filter, 8);
+    let s10 = pc_step(s9, rows, indices, col, filter, 9);
+    let s11 = pc_step(s10, rows, indices, col, filter, 10);
+    pc_step(s11, rows, indices, col, filter, 11)
+}
+
+// The n samples from byte col0 on, restored by a pretrained set.
+pub fn pc_wiener_fir_run(
+    dst: &mut [u8],
+    rows: &[u8],
+    indices: &[usize; 10],
+    col0: usize,
+    filter: &[i16; 13],
+    n: usize,
+) -> u8
+    ensures { λ r. ⌜ r ≡ runStatus (length (now (dst .entry))) (length (now (rows .entry))) (now (indices .entry)) col0 n ⌝ }
+    ensures { λ _. ⌜ now (dst .exit) ≡ pretrainedRun (now (dst .entry)) (now (rows .entry)) (now (indices .entry)) col0 (now (filter .entry)) n ⌝ }
+{
+    let status = run_status(dst.len(), rows.len(), indices, col0, n);
+    if status != 0 {
+        return status;
+    }
+    let ix = *indices;
+    let f = *filter;
+    let mut x = 0;
+    while x < n {
+        dst[x] = round_clip(pc_sum(rows, &ix, col0 + x, &f));
+        x += 1;
+    }
+    0
+}
+
+// One tap more of the chroma filter's own six.
+fn uv_step(
+    s: i32,
+    rows: &[u8],
+    indices: &[usize; 10],
+    col: usize,
+    filter: &[i8; 18],
+    k: usize,
+) -> i32
+    requires { ⌜ k < 6 ⌝ }
+    requires { ⌜ ChromaPartial (now rows) (now indices) col (now filter) k s ⌝ }
+    ensures { λ r. ⌜ ChromaPartial (now (rows .entry)) (now (indices .entry)) col (now (filter .entry)) (k + 1) r ⌝ }
+{
+    let t = WIENER_NS_CONFIG_UV[k];
+    let p = pair_at(rows, indices, 2, col, t[0], t[1]);
+    let m = byte_at(rows, indices, 0, ROW_BYTES, 2, col, 0, 0);
+    ns_tap(s, p, m, filter[k])
+}
+
+// The sum of its own six taps.
+fn uv_own_sum(rows: &[u8], indices: &[usize; 10], col: usize, filter: &[i8; 18]) -> i32
+    requires { ⌜ Window 0 76 2 (now rows) (now indices) col ⌝ }
+    ensures { λ r. ⌜ ChromaPartial (now (rows .entry)) (now (indices .entry)) col (now (filter .entry)) 6 r ⌝ }
+{
+    let s0 = ns_start(rows, indices, 2, col);
+    let s1 = uv_step(s0, rows, indices, col, filter, 0);
+    let s2 = uv_step(s1, rows, indices, col, filter, 1);
+    let s3 = uv_step(s2, rows, indices, col, filter, 2);
+    let s4 = uv_step(s3, rows, indices, col, filter, 3);
+    let s5 = uv_step(s4, rows, indices, col, filter, 4);
+    uv_step(s5, rows, indices, col, filter, 5)
+}
+
+// One tap more of its twelve of luma.
+fn uv_luma_step(
+    s: i32,
+    rows: &[u8],
+    indices: &[usize; 10],
+    lcol: usize,
+    step: u8,
+    filter: &[i8; 18],
+    k: usize,
+) -> i32
+    requires { ⌜ k < 12 ⌝ }
+    requires { ⌜ FromLumaPartial (now rows) (now indices) lcol step (now filter) k s ⌝ }
+    ensures { λ r. ⌜ FromLumaPartial (now (rows .entry)) (now (indices .entry)) lcol step (now (filter .entry)) (k + 1) r ⌝ }
+{
+    let t = WIENER_NS_CONFIG_UV_FROM_Y[k];
+    let dx = step as i8 * t[1];
+    let v = byte_at(
+        rows,
+        indices,
+        LUMA_ROWS_AT,
+        LUMA_ROW_BYTES,
+        7,
+        lcol,
+        t[0],
+        dx,
+    );
+    let m = byte_at(rows, indices, LUMA_ROWS_AT, LUMA_ROW_BYTES, 7, lcol, 0, 0);
+    let at = 6 + k;
+    luma_tap(s, v, m, filter[at])
+}
+
+fn uv_luma_sum(rows: &[u8], indices: &[usize; 10], lcol: usize, step: u8, filter: &[i8; 18]) -> i32
+    requires { ⌜ Window 380 140 (2 * step) (now rows) (now indices) lcol × (step ≤ 2) ⌝ }
+    ensures { λ r. ⌜ FromLumaPartial (now (rows .entry)) (now (indices .entry)) lcol step (now (filter .entry)) 12 r ⌝ }
+{
+    let s1 = uv_luma_step(0, rows, indices, lcol, step, filter, 0);
+    let s2 = uv_luma_step(s1, rows, indices, lcol, step, filter, 1);
+    let s3 = uv_luma_step(s2, rows, indices, lcol, step, filter, 2);
+    let s4 = uv_luma_step(s3, rows, indices, lcol, step, filter, 3);
+    let s5 = uv_luma_step(s4, rows, indices, lcol, step, filter, 4);
+    let s6 = uv_luma_step(s5, rows, indices, lcol, step, filter, 5);
+    let s7 = uv_luma_step(s6, rows, indices, lcol, step, filter, 6);
+    let s8 = uv_luma_step(s7, rows, indices, lcol, step, filter, 7);
+    let s9 = uv_luma_step(s8, rows, indices, lcol, step, filter, 8);
+    let s10 = uv_luma_step(s9, rows, indices, lcol, step, filter, 9);
+    let s11 = uv_luma_step(s10, rows, indices, lcol, step, filter, 10);
+    uv_luma_step(s11, rows, indices, lcol, step, filter, 11)
+}
+
+fn uv_sum(
+    rows: &[u8],
+    indices: &[usize; 10],
+    col: usize,
+    lcol: usize,
+    step: u8,
+    filter: &[i8; 18],
+) -> i32
+    requires { ⌜ Window 0 76 2 (now rows) (now indices) col ⌝ }
+    requires { ⌜ Window 380 140 (2 * step) (now rows) (now indices) lcol × (step ≤ 2) ⌝ }
+    ensures { λ r. ⌜ (r ≡ chromaSum (chromaFlat (now (rows .entry)) (now (indices .entry)) col) (chromaLumaFlat (now (rows .entry)) (now (indices .entry)) lcol) step (coefficients (now (filter .entry)))) × (natAbs r < 2 ^ 30) ⌝ }
+{
+    uv_own_sum(rows, indices, col, filter) + uv_luma_sum(rows, indices, lcol, step, filter)
+}
+
+fn uv_status(
+    dst: usize,
+    rows: usize,
+    indices: &[usize; 10],
+    col0: usize,
+    lcol0: usize,
+    step: usize,
+    n: usize,
+) -> u8
+    ensures { λ r. ⌜ r ≡ uvStatus dst rows (now (indices .entry)) col0 lcol0 step n ⌝ }
+{
+    if !own_inside(dst, rows, indices, col0, n, 1080, 4, 2) {
+        return 5;
+    }
+    if 2 < step {
+        return 5;
+    }
+    if lcol0 < 4 {
+        return 5;
+    }
+    if !bounds::room(lcol0, step * n, 4, LUMA_ROW_BYTES) {
+        return 5;
+    }
+    0
+}
+
+// The n chroma samples from byte col0 on; lcol0 is the byte of the first one's luma sample, step the luma columns to a chroma column.
+pub fn ns_wiener_uv_fir_run(
+    dst: &mut [u8],
+    rows: &[u8],
+    indices: &[usize; 10],
+    col0: usize,
+    lcol0: usize,
+    step: usize,
+    filter: &[i8; 18],
+    n: usize,
+) -> u8
+    ensures { λ r. ⌜ r ≡ uvStatus (length (now (dst .entry))) (length (now (rows .entry))) (now (indices .entry)) col0 lcol0 step n ⌝ }
+    ensures { λ _. ⌜ now (dst .exit) ≡ chromaRun (now (dst .entry)) (now (rows .entry)) (now (indices .entry)) col0 lcol0 step (now (filter .entry)) n ⌝ }
+{
+    let status = uv_status(dst.len(), rows.len(), indices, col0, lcol0, step, n);
+    if status != 0 {
+        return status;
+    }
+    let ix = *indices;
+    let f = *filter;
+    let luma_step = step as u8;
+    let mut x = 0;
+    while x < n {
+        dst[x] = round_clip(uv_sum(rows, &ix, col0 + x, lcol0 + x * step, luma_step, &f));
+        x += 1;
+    }
+    0
+}
