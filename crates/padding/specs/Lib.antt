@@ -1,0 +1,2 @@
+pub mod Padded
+pub mod Steps
