@@ -88,7 +88,7 @@ slid-at (suc n) j l hl hj =
           rw e (getD-set-same (slid n l) n _ 0 (rw (slid-length n l) hl) ∙ slid-above n (suc n) l (omega arith))
     ]
 
-slid-low : (n b : ℕ) (l : List ℕ) → ((j : ℕ) → getD l j 0 ≤ b) → (j : ℕ) → getD (slid n l) j 0 ≤ b
+pub slid-low : (n b : ℕ) (l : List ℕ) → ((j : ℕ) → getD l j 0 ≤ b) → (j : ℕ) → getD (slid n l) j 0 ≤ b
 slid-low zero b l f j = f j
 slid-low (suc n) b l f j = set-low (slid n l) n _ b (slid-low n b l f (suc n)) (slid-low n b l f) j
 

@@ -1,3 +1,4 @@
 pub mod Rows
 pub mod Opening
 pub mod Fine
+pub mod Views

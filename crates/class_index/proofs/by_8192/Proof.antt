@@ -14,6 +14,18 @@ zero = natural (lit≤ tt) (lit< tt)
 half : Held w64 4096 (pos 4096) 4096
 half = natural (lit≤ tt) (lit< tt)
 
+returns : tie.Need-returns
+returns c =
+    let v = kept (c .before .fits .v) in
+    let r = minus zero (shifted 8192 (plus (minus zero (under v (c .before .pre)) (lit< tt)) half (lit< tt)) (lit< tt)) (lit< tt) in
+    (r .is ∙ below-zero (c .before .args .v) (rw (v .is) at (c .if1 .taken)), rw (r .is) (r .bound))
+
+returns-2 : tie.Need-returns-2
+returns-2 c =
+    let v = kept (c .before .fits .v) in
+    let r = shifted 8192 (plus (under v (c .before .pre)) half (lit< tt)) (lit< tt) in
+    (r .is ∙ from-zero (c .before .args .v) (rw (v .is) at (c .if1 .left)), rw (r .is) (r .bound))
+
 sub-result : tie.Need-sub-result
 sub-result c = minus-fits zero (under (kept (c .before .fits .v)) (c .before .pre)) (lit< tt)
 
@@ -24,20 +36,8 @@ sub-result-2 : tie.Need-sub-result-2
 sub-result-2 c =
     minus-fits zero (shifted 8192 (plus (minus zero (under (kept (c .before .fits .v)) (c .before .pre)) (lit< tt)) half (lit< tt)) (lit< tt)) (lit< tt)
 
-returns : tie.Need-returns
-returns c =
-    let v = kept (c .before .fits .v) in
-    let r = minus zero (shifted 8192 (plus (minus zero (under v (c .before .pre)) (lit< tt)) half (lit< tt)) (lit< tt)) (lit< tt) in
-    (r .is ∙ below-zero (c .before .args .v) (rw (v .is) at (c .if1 .taken)), rw (r .is) (r .bound))
-
 add-result-2 : tie.Need-add-result-2
 add-result-2 c = plus-fits (under (kept (c .before .fits .v)) (c .before .pre)) half (lit< tt)
-
-returns-2 : tie.Need-returns-2
-returns-2 c =
-    let v = kept (c .before .fits .v) in
-    let r = shifted 8192 (plus (under v (c .before .pre)) half (lit< tt)) (lit< tt) in
-    (r .is ∙ from-zero (c .before .args .v) (rw (v .is) at (c .if1 .left)), rw (r .is) (r .bound))
 
 pub by-8192-spec : {M : Type 1} → statement M
 by-8192-spec =

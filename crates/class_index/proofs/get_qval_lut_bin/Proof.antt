@@ -7,6 +7,14 @@ use borrow.Author.Needs.{needs}
 use Rattle.class_index.proofs.get_qval_lut_bin.Statement.{statement}
 use Rattle.class_index.proofs.get_qval_lut_bin.Tie as tie
 
+returns : tie.Need-returns
+returns c =
+    let s = c .before .before .before in
+    let m = c .before .before .imax in
+    let a = c .before .saturating-add in
+    let n = c .imin in
+    ap natAbs (binned (s .args .qval) (m .result) (a .result) (n .result) (s .fits .qval) (record { sfits = m .ok }) (record { sfits = a .ok }) (record { sfits = n .ok }) (m .ensures) (a .ensures) (n .ensures))
+
 imax-requires : tie.Need-imax-requires
 imax-requires c κs = search needs
 
@@ -24,14 +32,6 @@ cast-result c =
     let n = c .imin in
     rw (binned (s .args .qval) (m .result) (a .result) (n .result) (s .fits .qval) (record { sfits = m .ok }) (record { sfits = a .ok }) (record { sfits = n .ok }) (m .ensures) (a .ensures) (n .ensures))
     (tt, omega (arith, bin-small (s .args .qval)))
-
-returns : tie.Need-returns
-returns c =
-    let s = c .before .before .before in
-    let m = c .before .before .imax in
-    let a = c .before .saturating-add in
-    let n = c .imin in
-    ap natAbs (binned (s .args .qval) (m .result) (a .result) (n .result) (s .fits .qval) (record { sfits = m .ok }) (record { sfits = a .ok }) (record { sfits = n .ok }) (m .ensures) (a .ensures) (n .ensures))
 
 pub get-qval-lut-bin-spec : {M : Type 1} → statement M
 get-qval-lut-bin-spec =

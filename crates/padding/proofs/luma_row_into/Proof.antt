@@ -7,7 +7,7 @@ use borrow.Author.Needs.{needs}
 use Rattle.definition.specs.Padding.{hasLeft, hasRight, lastSampled}
 use Rattle.padding.specs.Padded.{source}
 use Rattle.padding.proofs.Columns.{lower-again, last-inside, last-even}
-use Rattle.padding.proofs.Luma.{side-of, source-below, part-length, luma-done}
+use Rattle.padding.proofs.Luma.{Side, side-of, source-below, part-length, luma-done}
 use Rattle.padding.proofs.luma_row_into.Statement.{statement}
 use Rattle.padding.proofs.luma_row_into.Tie as tie
 
@@ -23,12 +23,19 @@ has-right-requires c κs = search needs
 beside-of-requires-2 : tie.Need-beside-of-requires-2
 beside-of-requires-2 c κs = search needs
 
+-- the columns that are lent on each side
+left-side : (c : tie.After-beside-of) → Side (hasLeft (c .before .before .before .before .before .args .edges)) (c .beside-of .result)
+left-side c = side-of (hasLeft (c .before .before .before .before .before .args .edges)) (c .before .has-left .result) (c .beside-of .result) (c .before .has-left .ensures) (c .beside-of .ensures)
+
+right-side : (c : tie.After-beside-of2) → Side (hasRight (c .before .before .before .before .before .before .before .args .edges)) (c .beside-of2 .result)
+right-side c = side-of (hasRight (c .before .before .before .before .before .before .before .args .edges)) (c .before .has-right .result) (c .beside-of2 .result) (c .before .has-right .ensures) (c .beside-of2 .ensures)
+
 add-n : tie.Need-add-n
 add-n c =
     let s = c .before .before .before .before .before .before .before in
     let a = s .args in
     let p = s .pre in
-    let sl = side-of (hasLeft (a .edges)) (c .before .before .before .has-left .result) (c .before .before .beside-of .result) (c .before .before .before .has-left .ensures) (c .before .before .beside-of .ensures) in
+    let sl = left-side (c .before .before) in
     omega arith
 
 add-n-2 : tie.Need-add-n-2
@@ -36,8 +43,8 @@ add-n-2 c =
     let s = c .before .before .before .before .before .before .before in
     let a = s .args in
     let p = s .pre in
-    let sl = side-of (hasLeft (a .edges)) (c .before .before .before .has-left .result) (c .before .before .beside-of .result) (c .before .before .before .has-left .ensures) (c .before .before .beside-of .ensures) in
-    let sr = side-of (hasRight (a .edges)) (c .before .has-right .result) (c .beside-of2 .result) (c .before .has-right .ensures) (c .beside-of2 .ensures) in
+    let sl = left-side (c .before .before) in
+    let sr = right-side c in
     omega arith
 
 lower-at-requires : tie.Need-lower-at-requires
@@ -48,7 +55,7 @@ sub-luma-row c =
     let s = c .before .before .before .before .before .before .before .before in
     let a = s .args in
     let p = s .pre in
-    let sl = side-of (hasLeft (a .edges)) (c .before .before .before .before .has-left .result) (c .before .before .before .beside-of .result) (c .before .before .before .before .has-left .ensures) (c .before .before .before .beside-of .ensures) in
+    let sl = left-side (c .before .before .before) in
     omega arith
 
 add-luma-row : tie.Need-add-luma-row
@@ -56,8 +63,8 @@ add-luma-row c =
     let s = c .before .before .before .before .before .before .before .before in
     let a = s .args in
     let p = s .pre in
-    let sl = side-of (hasLeft (a .edges)) (c .before .before .before .before .has-left .result) (c .before .before .before .beside-of .result) (c .before .before .before .before .has-left .ensures) (c .before .before .before .beside-of .ensures) in
-    let sr = side-of (hasRight (a .edges)) (c .before .before .has-right .result) (c .before .beside-of2 .result) (c .before .before .has-right .ensures) (c .before .beside-of2 .ensures) in
+    let sl = left-side (c .before .before .before) in
+    let sr = right-side (c .before) in
     let p₁ : length (a .plane .now) < 2 ^ 64 = omega arith in
     let p₂ : length (a .saved .now) < 2 ^ 64 = omega arith in
     omega (arith, source-below (a .from-saved) (a .plane .now) (a .saved .now) (2 ^ 64) p₁ p₂)
@@ -67,8 +74,8 @@ luma-row-requires c κs =
     let s = c .before .before .before .before .before .before .before .before in
     let a = s .args in
     let p = s .pre in
-    let sl = side-of (hasLeft (a .edges)) (c .before .before .before .before .has-left .result) (c .before .before .before .beside-of .result) (c .before .before .before .before .has-left .ensures) (c .before .before .before .beside-of .ensures) in
-    let sr = side-of (hasRight (a .edges)) (c .before .before .has-right .result) (c .before .beside-of2 .result) (c .before .before .has-right .ensures) (c .before .beside-of2 .ensures) in
+    let sl = left-side (c .before .before .before) in
+    let sr = right-side (c .before) in
     omega arith
 
 sub-luma-into : tie.Need-sub-luma-into
@@ -76,7 +83,7 @@ sub-luma-into c =
     let s = c .before .before .before .before .before .before .before .before .before .before in
     let a = s .args in
     let p = s .pre in
-    let sl = side-of (hasLeft (a .edges)) (c .before .before .before .before .before .before .has-left .result) (c .before .before .before .before .before .beside-of .result) (c .before .before .before .before .before .before .has-left .ensures) (c .before .before .before .before .before .beside-of .ensures) in
+    let sl = left-side (c .before .before .before .before .before) in
     omega arith
 
 luma-into-requires : tie.Need-luma-into-requires
@@ -84,8 +91,8 @@ luma-into-requires c κs =
     let s = c .before .before .before .before .before .before .before .before .before .before in
     let a = s .args in
     let p = s .pre in
-    let sl = side-of (hasLeft (a .edges)) (c .before .before .before .before .before .before .has-left .result) (c .before .before .before .before .before .beside-of .result) (c .before .before .before .before .before .before .has-left .ensures) (c .before .before .before .before .before .beside-of .ensures) in
-    let sr = side-of (hasRight (a .edges)) (c .before .before .before .before .has-right .result) (c .before .before .before .beside-of2 .result) (c .before .before .before .before .has-right .ensures) (c .before .before .before .beside-of2 .ensures) in
+    let sl = left-side (c .before .before .before .before .before) in
+    let sr = right-side (c .before .before .before) in
     let left = c .before .before .before .before .before .beside-of .result in
     let size : ℕ = left + a .w + c .before .before .before .beside-of2 .result + c .before .before .lower-at .result in
     let t = lower-again (a .ss-ver) (a .kind) (a .src-stride) (c .before .before .lower-at .result) (c .before .before .lower-at .ensures) in
@@ -131,8 +138,8 @@ returns c =
     let s = c .before .before .before .before .before .before .before .before .before .before .before .before .before .before .before .before .before .before .before .before .before .before in
     let a = s .args in
     let p = s .pre in
-    let sl = side-of (hasLeft (a .edges)) (c .before .before .before .before .before .before .before .before .before .before .before .before .before .before .before .before .before .before .has-left .result) (c .before .before .before .before .before .before .before .before .before .before .before .before .before .before .before .before .before .beside-of .result) (c .before .before .before .before .before .before .before .before .before .before .before .before .before .before .before .before .before .before .has-left .ensures) (c .before .before .before .before .before .before .before .before .before .before .before .before .before .before .before .before .before .beside-of .ensures) in
-    let sr = side-of (hasRight (a .edges)) (c .before .before .before .before .before .before .before .before .before .before .before .before .before .before .before .before .has-right .result) (c .before .before .before .before .before .before .before .before .before .before .before .before .before .before .before .beside-of2 .result) (c .before .before .before .before .before .before .before .before .before .before .before .before .before .before .before .before .has-right .ensures) (c .before .before .before .before .before .before .before .before .before .before .before .before .before .before .before .beside-of2 .ensures) in
+    let sl = left-side (c .before .before .before .before .before .before .before .before .before .before .before .before .before .before .before .before .before) in
+    let sr = right-side (c .before .before .before .before .before .before .before .before .before .before .before .before .before .before .before) in
     luma-done (a .dst .now) (source (a .from-saved) (a .plane .now) (a .saved .now)) (a .o) (a .src-o) (a .src-stride) (a .w) (lastSampled (a .ss-hor) (a .w)) (a .ss-ver) (a .kind)
     (c .before .before .before .before .before .before .before .before .before .before .before .before .before .before .before .before .before .beside-of .result) (c .before .before .before .before .before .before .before .before .before .before .before .before .before .before .before .beside-of2 .result) (hasLeft (a .edges)) (hasRight (a .edges)) sl sr (p .front) (p .room)
     (last-inside (a .ss-hor) (a .w) (p .pair .0) (p .whole) (p .some) .0) (omega arith)

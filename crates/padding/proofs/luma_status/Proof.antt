@@ -1,18 +1,39 @@
--- `padding::luma_status` meets its contract: each test is one of the conditions, in their order. Assumes nothing.
-use Prim.Native.Nat.{_+_, _%_}
+-- `padding::luma_status` meets its contract: each test is one of the conditions, in their order, and one that passes leaves those behind it. Assumes nothing.
 use mathlib.Core.Path.{_≡_, sym, _∙_}
-use mathlib.Core.Bool.{true, false}
+use mathlib.Core.Bool.{Bool, true, false, _&&_}
+use Prim.Native.Nat.{ℕ, _+_, _%_}
 use native.Mathlib.Nat.{le-refl}
 use native.Mathlib.Omega.{arith}
-use lib.Dec.{leb}
+use lib.Dec.{leb, eqb}
 use borrow.Author.Tests.{lt-ltb, le-ltb, lt-leb, le-leb, leb-true, eq-eqb, ne-eqb, not-true, not-false}
 use borrow.Author.Needs.{needs}
+use Rattle.definition.specs.Rows.{outsideUnless}
 use Rattle.definition.specs.Padding.{hasLeft, hasRight}
 use Rattle.definition.specs.Refusals.{beside}
-use Rattle.padding.specs.Padded.{lumaStatus, lowerAt}
+use Rattle.padding.specs.Padded.{lumaStatus, lowerAt, targetInside}
 use Rattle.padding.proofs.Around.{beside-inside}
 use Rattle.padding.proofs.luma_status.Statement.{statement}
 use Rattle.padding.proofs.luma_status.Tie as tie
+
+-- the status, and the conditions that are tested last
+abbrev status : tie.Start → ℕ
+status s =
+    let a = s .args in
+    lumaStatus (a .dst) (a .o) (a .src) (a .src-o) (a .src-stride) (a .w) (a .edges) (a .ss-hor) (a .ss-ver) (a .cfl-ds-flt)
+
+abbrev target : tie.Start → Bool
+target s = let a = s .args in leb (a .o + a .w + 4) (a .dst)
+
+abbrev whole : tie.Start → Bool
+whole s = let a = s .args in eqb (a .w % (a .ss-hor + 1)) 0
+
+abbrev lower : tie.Start → Bool
+lower s =
+    let a = s .args in
+    leb (a .src-o + lowerAt (a .ss-ver) (a .cfl-ds-flt) (a .src-stride) + (a .w + beside (hasRight (a .edges)) 4)) (a .src)
+
+abbrev left : tie.Start → Bool
+left s = let a = s .args in leb (beside (hasLeft (a .edges)) 4) (a .src-o)
 
 returns : tie.Need-returns
 unfolding lumaStatus
@@ -28,27 +49,36 @@ returns-3 c =
     let a = c .before .before .before .args in
     rw (le-ltb 1 (a .ss-hor) (omega arith), le-ltb (a .ss-hor) (a .ss-ver) (omega arith), lt-ltb 2 (a .cfl-ds-flt) (c .if3 .taken))
 
-returns-4 : tie.Need-returns-4
+sampled : (c : tie.Else3) →
+    status (c .before .before .before) ≡ outsideUnless (targetInside (c .before .before .before .args .dst) (c .before .before .before .args .o) (c .before .before .before .args .w) 4 && whole (c .before .before .before) && lower (c .before .before .before) && left (c .before .before .before))
 unfolding lumaStatus
-returns-4 c =
-    let a = c .before .before .before .before .args in
-    rw (le-ltb 1 (a .ss-hor) (omega arith), le-ltb (a .ss-hor) (a .ss-ver) (omega arith), le-ltb 2 (a .cfl-ds-flt) (omega arith), lt-leb 1 (a .w) (c .if4 .taken))
+sampled c =
+    let a = c .before .before .before .args in
+    rw (le-ltb 1 (a .ss-hor) (omega arith), le-ltb (a .ss-hor) (a .ss-ver) (omega arith), le-ltb 2 (a .cfl-ds-flt) (c .if3 .left))
+
+returns-4 : tie.Need-returns-4
+returns-4 c = rw (sampled (c .before), lt-leb 1 (c .before .before .before .before .args .w) (c .if4 .taken))
 
 returns-5 : tie.Need-returns-5
-unfolding lumaStatus
 returns-5 c =
     let a = c .before .before .before .before .before .args in
-    rw (le-ltb 1 (a .ss-hor) (omega arith), le-ltb (a .ss-hor) (a .ss-ver) (omega arith), le-ltb 2 (a .cfl-ds-flt) (omega arith), le-leb 1 (a .w) (omega arith), lt-leb 4 (a .o) (c .if5 .taken))
+    rw (sampled (c .before .before), le-leb 1 (a .w) (omega arith), lt-leb 4 (a .o) (c .if5 .taken))
 
 room-requires : tie.Need-room-requires
 room-requires c κs = search needs
 
+entered : (c : tie.Else5) → status (c .before .before .before .before .before) ≡ outsideUnless (target (c .before .before .before .before .before) && whole (c .before .before .before .before .before) && lower (c .before .before .before .before .before) && left (c .before .before .before .before .before))
+entered c =
+    let a = c .before .before .before .before .before .args in
+    rw (sampled (c .before .before), le-leb 1 (a .w) (omega arith), le-leb 4 (a .o) (c .if5 .left))
+
 returns-6 : tie.Need-returns-6
-unfolding lumaStatus
 returns-6 c =
-    let a = c .before .before .before .before .before .before .before .args in
-    let r : leb (a .o + a .w + 4) (a .dst) ≡ false = sym (c .before .room .ensures) ∙ not-true (c .before .room .result) (c .if6 .taken) in
-    rw (le-ltb 1 (a .ss-hor) (omega arith), le-ltb (a .ss-hor) (a .ss-ver) (omega arith), le-ltb 2 (a .cfl-ds-flt) (omega arith), le-leb 1 (a .w) (omega arith), le-leb 4 (a .o) (omega arith), r)
+    let r : target (c .before .before .before .before .before .before .before) ≡ false = sym (c .before .room .ensures) ∙ not-true (c .before .room .result) (c .if6 .taken) in
+    rw (entered (c .before .before), r)
+
+room : (c : tie.Else6) → target (c .before .before .before .before .before .before .before) ≡ true
+room c = sym (c .before .room .ensures) ∙ not-false (c .before .room .result) (c .if6 .left)
 
 add-if7 : tie.Need-add-if7
 add-if7 c = search needs
@@ -57,11 +87,14 @@ rem-if7 : tie.Need-rem-if7
 rem-if7 c = search needs
 
 returns-7 : tie.Need-returns-7
-unfolding lumaStatus
 returns-7 c =
     let a = c .before .before .before .before .before .before .before .before .args in
-    let r : leb (a .o + a .w + 4) (a .dst) ≡ true = sym (c .before .before .room .ensures) ∙ not-false (c .before .before .room .result) (c .before .if6 .left) in
-    rw (le-ltb 1 (a .ss-hor) (omega arith), le-ltb (a .ss-hor) (a .ss-ver) (omega arith), le-ltb 2 (a .cfl-ds-flt) (omega arith), le-leb 1 (a .w) (omega arith), le-leb 4 (a .o) (omega arith), r, ne-eqb (a .w % (a .ss-hor + 1)) 0 (c .if7 .taken))
+    rw (entered (c .before .before .before), room (c .before), ne-eqb (a .w % (a .ss-hor + 1)) 0 (c .if7 .taken))
+
+divided : (c : tie.Else7) → status (c .before .before .before .before .before .before .before .before) ≡ outsideUnless (lower (c .before .before .before .before .before .before .before .before) && left (c .before .before .before .before .before .before .before .before))
+divided c =
+    let a = c .before .before .before .before .before .before .before .before .args in
+    rw (entered (c .before .before .before), room (c .before), eq-eqb (a .w % (a .ss-hor + 1)) 0 (c .if7 .left))
 
 lower-at-requires : tie.Need-lower-at-requires
 lower-at-requires c κs = search needs
@@ -75,21 +108,20 @@ beside-of-requires c κs = search needs
 add-width : tie.Need-add-width
 add-width c =
     let a = c .before .before .before .before .before .before .before .before .before .before .before .args in
-    let r : leb (a .o + a .w + 4) (a .dst) ≡ true = sym (c .before .before .before .before .before .room .ensures) ∙ not-false (c .before .before .before .before .before .room .result) (c .before .before .before .before .if6 .left) in
-    let b = c .before .has-right .result in
-    omega (arith, leb-true (a .o + a .w + 4) (a .dst) r, c .beside-of .ensures, beside-inside b 4 4 (λ _. le-refl 4))
+    let r = leb-true (a .o + a .w + 4) (a .dst) (room (c .before .before .before .before)) in
+    omega (arith, c .beside-of .ensures, beside-inside (c .before .has-right .result) 4 4 (λ _. le-refl 4))
 
 room-requires-2 : tie.Need-room-requires-2
 room-requires-2 c κs = search needs
 
+-- what the second test of room finds
+found : (c : tie.After-room2) → c .room2 .result ≡ lower (c .before .before .before .before .before .before .before .before .before .before .before .before)
+found c = rw (c .before .before .before .lower-at .ensures, c .before .beside-of .ensures, c .before .before .has-right .ensures) at (c .room2 .ensures)
+
 returns-8 : tie.Need-returns-8
-unfolding lumaStatus
 returns-8 c =
-    let a = c .before .before .before .before .before .before .before .before .before .before .before .before .before .args in
-    let r : leb (a .o + a .w + 4) (a .dst) ≡ true = sym (c .before .before .before .before .before .before .before .room .ensures) ∙ not-false (c .before .before .before .before .before .before .before .room .result) (c .before .before .before .before .before .before .if6 .left) in
-    let e : leb (a .src-o + lowerAt (a .ss-ver) (a .cfl-ds-flt) (a .src-stride) + (a .w + beside (hasRight (a .edges)) 4)) (a .src) ≡ false =
-    rw (c .before .before .before .before .lower-at .ensures, c .before .before .beside-of .ensures, c .before .before .before .has-right .ensures) at (sym (c .before .room2 .ensures)) ∙ not-true (c .before .room2 .result) (c .if8 .taken) in
-    rw (le-ltb 1 (a .ss-hor) (omega arith), le-ltb (a .ss-hor) (a .ss-ver) (omega arith), le-ltb 2 (a .cfl-ds-flt) (omega arith), le-leb 1 (a .w) (omega arith), le-leb 4 (a .o) (omega arith), r, eq-eqb (a .w % (a .ss-hor + 1)) 0 (c .before .before .before .before .before .if7 .left), e)
+    let r : lower (c .before .before .before .before .before .before .before .before .before .before .before .before .before) ≡ false = sym (found (c .before)) ∙ not-true (c .before .room2 .result) (c .if8 .taken) in
+    rw (divided (c .before .before .before .before .before), r)
 
 has-left-requires : tie.Need-has-left-requires
 has-left-requires c κs = search needs
@@ -97,25 +129,24 @@ has-left-requires c κs = search needs
 beside-of-requires-2 : tie.Need-beside-of-requires-2
 beside-of-requires-2 c κs = search needs
 
+read : (c : tie.Else8) → status (c .before .before .before .before .before .before .before .before .before .before .before .before .before) ≡ outsideUnless (left (c .before .before .before .before .before .before .before .before .before .before .before .before .before))
+read c =
+    let r : lower (c .before .before .before .before .before .before .before .before .before .before .before .before .before) ≡ true = sym (found (c .before)) ∙ not-false (c .before .room2 .result) (c .if8 .left) in
+    rw (divided (c .before .before .before .before .before), r)
+
+-- how many samples stand before the row
+before-row : (c : tie.After-beside-of2) → c .beside-of2 .result ≡ beside (hasLeft (c .before .before .before .before .before .before .before .before .before .before .before .before .before .before .before .args .edges)) 4
+before-row c = rw (c .before .has-left .ensures) at (c .beside-of2 .ensures)
+
 returns-9 : tie.Need-returns-9
-unfolding lumaStatus
 returns-9 c =
     let a = c .before .before .before .before .before .before .before .before .before .before .before .before .before .before .before .before .args in
-    let r : leb (a .o + a .w + 4) (a .dst) ≡ true = sym (c .before .before .before .before .before .before .before .before .before .before .room .ensures) ∙ not-false (c .before .before .before .before .before .before .before .before .before .before .room .result) (c .before .before .before .before .before .before .before .before .before .if6 .left) in
-    let e : leb (a .src-o + lowerAt (a .ss-ver) (a .cfl-ds-flt) (a .src-stride) + (a .w + beside (hasRight (a .edges)) 4)) (a .src) ≡ true =
-    rw (c .before .before .before .before .before .before .before .lower-at .ensures, c .before .before .before .before .before .beside-of .ensures, c .before .before .before .before .before .before .has-right .ensures) at (sym (c .before .before .before .before .room2 .ensures)) ∙ not-false (c .before .before .before .before .room2 .result) (c .before .before .before .if8 .left) in
-    let l : c .before .beside-of2 .result ≡ beside (hasLeft (a .edges)) 4 = rw (c .before .before .has-left .ensures) at (c .before .beside-of2 .ensures) in
-    rw (le-ltb 1 (a .ss-hor) (omega arith), le-ltb (a .ss-hor) (a .ss-ver) (omega arith), le-ltb 2 (a .cfl-ds-flt) (omega arith), le-leb 1 (a .w) (omega arith), le-leb 4 (a .o) (omega arith), r, eq-eqb (a .w % (a .ss-hor + 1)) 0 (c .before .before .before .before .before .before .before .before .if7 .left), e, lt-leb (beside (hasLeft (a .edges)) 4) (a .src-o) (rw l at (c .if9 .taken)))
+    rw (read (c .before .before .before), lt-leb (beside (hasLeft (a .edges)) 4) (a .src-o) (rw (before-row (c .before)) at (c .if9 .taken)))
 
 returns-10 : tie.Need-returns-10
-unfolding lumaStatus
 returns-10 c =
     let a = c .before .before .before .before .before .before .before .before .before .before .before .before .before .before .before .before .args in
-    let r : leb (a .o + a .w + 4) (a .dst) ≡ true = sym (c .before .before .before .before .before .before .before .before .before .before .room .ensures) ∙ not-false (c .before .before .before .before .before .before .before .before .before .before .room .result) (c .before .before .before .before .before .before .before .before .before .if6 .left) in
-    let e : leb (a .src-o + lowerAt (a .ss-ver) (a .cfl-ds-flt) (a .src-stride) + (a .w + beside (hasRight (a .edges)) 4)) (a .src) ≡ true =
-    rw (c .before .before .before .before .before .before .before .lower-at .ensures, c .before .before .before .before .before .beside-of .ensures, c .before .before .before .before .before .before .has-right .ensures) at (sym (c .before .before .before .before .room2 .ensures)) ∙ not-false (c .before .before .before .before .room2 .result) (c .before .before .before .if8 .left) in
-    let l : c .before .beside-of2 .result ≡ beside (hasLeft (a .edges)) 4 = rw (c .before .before .has-left .ensures) at (c .before .beside-of2 .ensures) in
-    rw (le-ltb 1 (a .ss-hor) (omega arith), le-ltb (a .ss-hor) (a .ss-ver) (omega arith), le-ltb 2 (a .cfl-ds-flt) (omega arith), le-leb 1 (a .w) (omega arith), le-leb 4 (a .o) (omega arith), r, eq-eqb (a .w % (a .ss-hor + 1)) 0 (c .before .before .before .before .before .before .before .before .if7 .left), e, le-leb (beside (hasLeft (a .edges)) 4) (a .src-o) (rw l at (c .if9 .left)))
+    rw (read (c .before .before .before), le-leb (beside (hasLeft (a .edges)) 4) (a .src-o) (rw (before-row (c .before)) at (c .if9 .left)))
 
 pub luma-status-spec : {M : Type 1} → statement M
 luma-status-spec =

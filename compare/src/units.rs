@@ -1,0 +1,354 @@
+//! Random small units, and the Rust run on them.
+
+use crate::exec_context::ExecContext;
+use crate::looprestoration::{
+    ns_wiener_multi_8bpc, ns_wiener_single_uv_8bpc, ns_wiener_single_y_8bpc, pc_wiener_8bpc,
+};
+use crate::random::Random;
+
+#[derive(Clone, Copy, PartialEq, Eq)]
+pub(crate) enum Operation {
+    Luma,
+    User,
+    Pretrained,
+    Chroma,
+}
+
+pub(crate) const OPERATIONS: [Operation; 4] = [
+    Operation::Luma,
+    Operation::User,
+    Operation::Pretrained,
+    Operation::Chroma,
+];
+
+/// A unit that is not refused: what it is opened with, and what is lent. Lists that its edge bits leave unused are empty.
+pub(crate) struct Unit {
+    pub op: Operation,
+    pub w: usize,
+    pub h: usize,
+    pub edges: u8,
+    pub stride: usize,
+    pub luma_stride: usize,
+    pub off: usize,
+    pub top_off: usize,
+    pub bottom_off: usize,
+    pub luma_off: usize,
+    pub luma_top_off: usize,
+    pub luma_bottom_off: usize,
+    pub ss_hor: usize,
+    pub ss_ver: usize,
+    pub kind: usize,
+    pub plane: Vec<u8>,
+    pub left: Vec<u8>,
+    pub top: Vec<u8>,
+    pub bottom: Vec<u8>,
+    pub luma_plane: Vec<u8>,
+    pub luma_top: Vec<u8>,
+    pub luma_bottom: Vec<u8>,
+    pub skip: Vec<u16>,
+    pub noskip: Vec<u16>,
+    pub subclass: Vec<u8>,
+    pub filters: Vec<i64>,
+    pub q: i32,
+}
+
+/// Rows of lent bytes: `above` samples before the first row and the least length that takes all, sometimes a little more
+/// of both.
+struct Rows {
+    off: usize,
+    bytes: Vec<u8>,
+}
+
+/// Samples of one unit: any, or all near to one value, where its classes differ most.
+#[derive(Clone, Copy)]
+enum Shades {
+    Any,
+    Near(i64, i64),
+}
+
+impl Shades {
+    fn bytes(self, r: &mut Random, n: usize) -> Vec<u8> {
+        match self {
+            Shades::Any => r.bytes(n),
+            Shades::Near(base, spread) => r.near(base, spread, n),
+        }
+    }
+}
+
+fn lend(
+    r: &mut Random,
+    shades: Shades,
+    rows: usize,
+    stride: usize,
+    before: usize,
+    row: usize,
+) -> Rows {
+    if rows == 0 {
+        return Rows {
+            off: r.below(9),
+            bytes: Vec::new(),
+        };
+    }
+    let off = before.max(1) + r.below(4);
+    let len = off + (rows - 1) * stride + row + [0, 0, 1, 3][r.below(4)];
+    Rows {
+        off,
+        bytes: shades.bytes(r, len),
+    }
+}
+
+impl Unit {
+    /// A unit of an operation. `edge_set` is one of 64; higher bits are added at times.
+    pub fn random(r: &mut Random, op: Operation, edge_set: u8) -> Unit {
+        let size = |r: &mut Random| [4, 4, 4, 4, 8, 8, 8, 8, 12][r.below(9)];
+        let (mut w, mut h) = (size(r), size(r));
+        if w * h > 64 {
+            *[&mut w, &mut h][r.below(2)] = 4;
+        }
+        Unit::sized(r, op, edge_set, w, h)
+    }
+
+    pub fn sized(r: &mut Random, op: Operation, edge_set: u8, w: usize, h: usize) -> Unit {
+        let chroma = op == Operation::Chroma;
+        let classed = op == Operation::User || op == Operation::Pretrained;
+        let edges = edge_set
+            | if r.once_in(3) {
+                (r.below(4) as u8) << 6
+            } else {
+                0
+            };
+        let bit = |k: u8| edges >> k & 1 != 0;
+        let e = if chroma { 2 } else { 4 };
+        let beside = |k: u8, n: usize| if bit(k) { n } else { 0 };
+        let stride = w + beside(1, e) + r.below(4);
+        let shades = if classed && !r.once_in(3) {
+            Shades::Near(r.within(10, 245), r.within(0, 24))
+        } else {
+            Shades::Any
+        };
+
+        let top_rows = if chroma {
+            if bit(2) || bit(4) { 2 } else { 0 }
+        } else if bit(4) {
+            4
+        } else {
+            beside(2, 2)
+        };
+        let bottom_rows = if bit(5) { 0 } else { beside(3, 2) };
+        let own = lend(r, shades, h + beside(5, e), stride, 0, w + beside(1, e));
+        let top = lend(r, shades, top_rows, stride, beside(0, e), w + beside(1, e));
+        let bottom = lend(
+            r,
+            shades,
+            bottom_rows,
+            stride,
+            beside(0, e),
+            w + beside(1, e),
+        );
+
+        let (ss_hor, ss_ver) = [(0, 0), (1, 0), (1, 1), (1, 1)][r.below(4)];
+        let (ss_hor, ss_ver, kind) = if chroma {
+            (ss_hor, ss_ver, r.below(3))
+        } else {
+            (0, 0, 0)
+        };
+        let v = 1 << ss_ver;
+        let one_less = usize::from(ss_ver == 1 && kind == 2);
+        let luma_row = (w << ss_hor) + beside(1, 4);
+        let luma_stride = match (chroma, r.below(6)) {
+            (false, _) => r.below(9),
+            (true, 0) => r.below(8),
+            (true, _) => luma_row + r.below(6),
+        };
+        let above = beside(4, 2 * v) * luma_stride + beside(0, 4);
+        let luma_rows = if chroma {
+            v * (h + beside(5, 2)) - one_less
+        } else {
+            0
+        };
+        let luma = lend(r, shades, luma_rows, luma_stride, above, luma_row);
+        let luma_top_rows = if !chroma || bit(4) || !bit(2) {
+            0
+        } else {
+            2 - one_less
+        };
+        let luma_top = lend(
+            r,
+            shades,
+            luma_top_rows,
+            luma_stride,
+            beside(0, 4),
+            luma_row,
+        );
+        let luma_bottom_rows = if chroma { bottom_rows } else { 0 };
+        let luma_bottom = lend(
+            r,
+            shades,
+            luma_bottom_rows,
+            luma_stride,
+            beside(0, 4),
+            luma_row,
+        );
+
+        let sets = if classed { 1 + r.below(5) } else { 1 };
+        let filters = match op {
+            Operation::Luma => r.taps(16, 127),
+            Operation::Chroma => r.taps(18, 127),
+            Operation::User => (0..sets).flat_map(|_| r.taps(18, 127)).collect(),
+            Operation::Pretrained => (0..sets)
+                .flat_map(|_| {
+                    let limit = if r.once_in(2) { 32_767 } else { 127 };
+                    r.taps(13, limit)
+                })
+                .collect(),
+        };
+        Unit {
+            op,
+            w,
+            h,
+            edges,
+            stride,
+            luma_stride,
+            off: own.off,
+            top_off: top.off,
+            bottom_off: bottom.off,
+            luma_off: luma.off,
+            luma_top_off: luma_top.off,
+            luma_bottom_off: luma_bottom.off,
+            ss_hor,
+            ss_ver,
+            kind,
+            plane: own.bytes,
+            left: if bit(0) {
+                shades.bytes(r, 6 * h)
+            } else {
+                Vec::new()
+            },
+            top: top.bytes,
+            bottom: bottom.bytes,
+            luma_plane: luma.bytes,
+            luma_top: luma_top.bytes,
+            luma_bottom: luma_bottom.bytes,
+            skip: r.masks(h),
+            noskip: if classed { r.masks(h / 4) } else { Vec::new() },
+            subclass: if classed {
+                (0..64).map(|_| r.below(sets) as u8).collect()
+            } else {
+                Vec::new()
+            },
+            filters,
+            q: if classed { r.quantizer() } else { 0 },
+        }
+    }
+
+    /// The plane after the Rust restored the unit. The Rust indexes `left` without the left bit too, and in kind 0 one
+    /// luma column too many: it is lent those.
+    pub fn restored(&self) -> Vec<u8> {
+        let exec = ExecContext::new();
+        let mut plane = self.plane.clone();
+        let mut left: Vec<[u8; 6]> = self.left.as_chunks::<6>().0.to_vec();
+        left.resize(self.h, [171; 6]);
+        let masks: Vec<[u16; 4]> = self.skip.as_chunks::<4>().0.to_vec();
+        let wider = |bytes: &[u8]| [bytes, &[211]].concat();
+        let (luma, luma_top, luma_bottom) = (
+            wider(&self.luma_plane),
+            wider(&self.luma_top),
+            wider(&self.luma_bottom),
+        );
+        let narrow: Vec<i8> = self.filters.iter().map(|&c| c as i8).collect();
+        match self.op {
+            Operation::Luma => ns_wiener_single_y_8bpc(
+                &exec,
+                &mut plane,
+                self.off,
+                self.stride,
+                &left,
+                &self.top,
+                self.top_off,
+                &self.bottom,
+                self.bottom_off,
+                self.w,
+                self.h,
+                narrow.as_array::<16>().expect("16 numbers"),
+                self.edges,
+                &masks,
+            ),
+            Operation::User => ns_wiener_multi_8bpc(
+                &exec,
+                &mut plane,
+                self.off,
+                self.stride,
+                &left,
+                &self.top,
+                self.top_off,
+                &self.bottom,
+                self.bottom_off,
+                self.w,
+                self.h,
+                narrow.as_chunks::<18>().0,
+                &self.subclass,
+                &self.noskip,
+                self.q,
+                self.edges,
+                &masks,
+            ),
+            Operation::Pretrained => {
+                let wide: Vec<i16> = self.filters.iter().map(|&c| c as i16).collect();
+                pc_wiener_8bpc(
+                    &exec,
+                    &mut plane,
+                    self.off,
+                    self.stride,
+                    &left,
+                    &self.top,
+                    self.top_off,
+                    &self.bottom,
+                    self.bottom_off,
+                    self.w,
+                    self.h,
+                    wide.as_chunks::<13>().0,
+                    &self.subclass,
+                    &self.noskip,
+                    self.q,
+                    self.edges,
+                    &masks,
+                )
+            }
+            Operation::Chroma => ns_wiener_single_uv_8bpc(
+                &exec,
+                &mut plane,
+                self.off,
+                self.stride,
+                &left,
+                &self.top,
+                self.top_off,
+                &self.bottom,
+                self.bottom_off,
+                self.w,
+                self.h,
+                narrow.as_array::<18>().expect("18 numbers"),
+                &luma,
+                self.luma_off,
+                self.luma_stride,
+                &luma_top,
+                self.luma_top_off,
+                &luma_bottom,
+                self.luma_bottom_off,
+                self.ss_hor,
+                self.ss_ver,
+                self.kind as i32,
+                self.edges,
+                &masks,
+            ),
+        }
+        plane
+    }
+
+    /// The rectangle of a plane, row by row.
+    pub fn rectangle(&self, plane: &[u8]) -> Vec<u8> {
+        (0..self.h)
+            .flat_map(|y| &plane[self.off + y * self.stride..][..self.w])
+            .copied()
+            .collect()
+    }
+}

@@ -1,0 +1,189 @@
+//! Units and what the Rust makes of them, as an antt file that compares them with the definition by computation.
+
+use std::fmt::Write;
+
+use crate::random::Random;
+use crate::units::{OPERATIONS, Operation, Unit};
+
+const HEAD: &str = "\
+-- What the reference makes of random units, beside what the definition says: every sample of each unit's rectangle.
+-- One proof that antt computes. Assumes nothing.
+use mathlib.Core.Bool.{Bool, true, false, _&&_}
+use mathlib.Core.List.{List, [], _∷_}
+use mathlib.Core.Path.{_≡_, refl}
+use Prim.Native.Nat.{ℕ, zero, suc, _+_, _*_, _/_, _%_}
+use lib.Dec.{eqb}
+use lib.IntN.{ℤ, pos, negsuc}
+use Rattle.definition.specs.Numbers.{sumZ, sumN}
+use Rattle.definition.specs.Rows.{tab}
+use Rattle.definition.specs.Sample.{rounded}
+use Rattle.definition.specs.ClassIndex.{term, bin, feature, skipSum, indexOf}
+use Rattle.definition.specs.Units.{Operation, luma, user, pretrained, chroma, Given, Lent, sampleAt, lumaAt, classOf, finalSample}
+
+record Vector : Type 0 where
+  op : Operation
+  given : Given
+  lent : Lent
+  plane : List ℕ
+  -- the rectangle after the unit was restored, row by row
+  expected : List ℕ
+
+-- the map that the reference is run with, from entry k on and whole
+mapFrom : ℕ → ℕ → List ℕ
+mapFrom zero k = []
+mapFrom (suc n) k = (k * 37 + k / 64) % 64 ∷ mapFrom n (suc k)
+
+classMap : List ℕ
+classMap = mapFrom 4096 0
+
+same : List ℕ → List ℕ → Bool
+same [] [] = true
+same [] (y ∷ ys) = false
+same (x ∷ xs) [] = false
+same (x ∷ xs) (y ∷ ys) = eqb x y && same xs ys
+
+final : Operation → Given → Lent → List ℕ → List ℕ
+final op g l plane = tab (g .w * g .h) (λ i. finalSample g l plane op (i / g .w) (i % g .w))
+
+holds : Vector → Bool
+holds v = same (final (v .op) (v .given) (v .lent) (v .plane)) (v .expected)
+
+hold : List Vector → Bool
+hold [] = true
+hold (v ∷ vs) = holds v && hold vs
+";
+
+/// The definition's own names that the computation goes through.
+const UNFOLDED: &str =
+    "sumZ sumN rounded term bin feature skipSum indexOf sampleAt lumaAt classOf finalSample";
+
+/// A line `name = items;` of a record, broken into further lines where it is long.
+fn field<T>(out: &mut String, indent: &str, name: &str, items: &[T], show: impl Fn(&T) -> String) {
+    let _ = write!(out, "{indent}{name} =");
+    let mut column = 0;
+    for item in items {
+        let item = show(item);
+        column += item.len() + 3;
+        if column > 150 {
+            let _ = write!(out, "\n{indent}   ");
+            column = item.len() + 3;
+        }
+        let _ = write!(out, " {item} ∷");
+    }
+    let _ = writeln!(out, " [];");
+}
+
+fn integer(v: i64) -> String {
+    if v < 0 {
+        format!("negsuc {}", -(v + 1))
+    } else {
+        format!("pos {v}")
+    }
+}
+
+fn write_unit(out: &mut String, k: usize, u: &Unit, expected: &[u8]) {
+    let (op, classed) = match u.op {
+        Operation::Luma => ("luma", false),
+        Operation::User => ("user", true),
+        Operation::Pretrained => ("pretrained", true),
+        Operation::Chroma => ("chroma", false),
+    };
+    let _ = writeln!(out, "\nunit{k} : Vector\nunit{k} = record {{\n  op = {op};");
+    let _ = writeln!(out, "  given = record {{");
+    for (name, number) in [
+        ("w", u.w),
+        ("h", u.h),
+        ("edges", usize::from(u.edges)),
+        ("stride", u.stride),
+        ("lumaStride", u.luma_stride),
+        ("off", u.off),
+        ("topOff", u.top_off),
+        ("bottomOff", u.bottom_off),
+        ("lumaOff", u.luma_off),
+        ("lumaTopOff", u.luma_top_off),
+        ("lumaBottomOff", u.luma_bottom_off),
+        ("ssHor", u.ss_hor),
+        ("ssVer", u.ss_ver),
+        ("kind", u.kind),
+    ] {
+        let _ = writeln!(out, "    {name} = {number};");
+    }
+    let _ = writeln!(out, "  }};\n  lent = record {{");
+    for (name, bytes) in [
+        ("left", &u.left),
+        ("top", &u.top),
+        ("bottom", &u.bottom),
+        ("lumaPlane", &u.luma_plane),
+        ("lumaTop", &u.luma_top),
+        ("lumaBottom", &u.luma_bottom),
+    ] {
+        field(out, "    ", name, bytes, u8::to_string);
+    }
+    field(out, "    ", "skip", &u.skip, u16::to_string);
+    field(out, "    ", "noskip", &u.noskip, u16::to_string);
+    let map = if classed { "classMap" } else { "[]" };
+    let _ = writeln!(out, "    map = {map};");
+    field(out, "    ", "subclass", &u.subclass, u8::to_string);
+    field(out, "    ", "filters", &u.filters, |&c| integer(c));
+    let _ = writeln!(out, "    q = {};\n  }};", integer(i64::from(u.q)));
+    field(out, "  ", "plane", &u.plane, u8::to_string);
+    field(out, "  ", "expected", expected, u8::to_string);
+    let _ = writeln!(out, "}}");
+}
+
+/// Up to so many units of each operation stand under one proof; antt stops a proof at 50 million steps.
+const FEW: usize = 3;
+
+/// The edge bits of a few units: saved rows above and below, integrated ones, then a mix.
+fn varied_edges(r: &mut Random, round: usize) -> u8 {
+    let beside = r.below(4) as u8;
+    beside
+        | match round {
+            0 => 12,
+            1 => 48 | (r.below(4) as u8) << 2,
+            _ => [0, 4, 8, 24, 36][r.below(5)],
+        }
+}
+
+/// An antt file with `count` units of each operation, under one proof where there are few and else under one for each.
+pub(crate) fn file(seed: u64, count: usize) -> String {
+    let mut out = String::from(HEAD);
+    let mut r = Random::new(seed);
+    let mut names = Vec::new();
+    for round in 0..count {
+        for op in OPERATIONS {
+            let k = names.len();
+            let unit = if count <= FEW {
+                let edges = varied_edges(&mut r, round);
+                let (w, h) = (4 + 4 * r.below(2), 4 + 4 * r.below(2));
+                Unit::sized(&mut r, op, edges, w, h)
+            } else {
+                let edges = r.below(64) as u8;
+                Unit::random(&mut r, op, edges)
+            };
+            let expected = unit.rectangle(&unit.restored());
+            write_unit(&mut out, k, &unit, &expected);
+            names.push(format!("unit{k}"));
+        }
+    }
+    let proofs: Vec<&[String]> = if count <= FEW {
+        vec![&names]
+    } else {
+        names.chunks(1).collect()
+    };
+    for names in proofs {
+        let name = if count <= FEW {
+            String::from("vectors")
+        } else {
+            format!("{}-holds", names[0])
+        };
+        let (all, unfolded) = (names.join(" ∷ "), names.join(" "));
+        let _ = write!(
+            out,
+            "\n{name} : hold ({all} ∷ []) ≡ true\n\
+             unfolding hold holds final same mapFrom classMap {unfolded} {UNFOLDED}\n\
+             {name} = refl\n"
+        );
+    }
+    out
+}
