@@ -44,3 +44,8 @@ module _ (test : ℕ → Bool) (xs : List ℕ) where
         | yes q ↦ rw q (p .1)
         | no ne ↦ pass-at n k (omega arith) (p .0)
       ]
+
+  pub pass-all : (n : ℕ) → ((k : ℕ) → k < n → test (getD xs k 0) ≡ true) → firstPass test n xs ≡ true
+  unfolding firstPass
+  pass-all zero h = refl
+  pass-all (suc n) h = rw (pass-all n (λ k l. h k (omega arith)), h n (omega arith))

@@ -2,3 +2,5 @@ pub mod Rows
 pub mod Opening
 pub mod Fine
 pub mod Views
+pub mod LumaRows
+pub mod Classes

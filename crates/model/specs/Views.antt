@@ -15,7 +15,7 @@ use Rattle.definition.specs.Numbers.{sumZ}
 use Rattle.definition.specs.Rows.{tab, flatAround, rowBytes, rowOrigin}
 use Rattle.definition.specs.Sample.{rounded, dyOf, dxOf, centre, pairOf, nsTap, pcTap, lumaTap, nsConfigY, nsConfigUv, nsConfigUvFromY, pcConfig, lumaSample, pretrainedSample, chromaSample}
 use Rattle.definition.specs.Units.{Operation, border, Given, Lent, sampleAt, around}
-use Rattle.laws.proofs.Ints.{abs-neg, abs-add, abs-mul, nonneg-add, sub-pos}
+use Rattle.laws.proofs.Ints.{abs-neg, abs-add, abs-mul, nonneg-add}
 use Rattle.laws.proofs.Lists.{getD-tab, length-tab, sets-in}
 use Rattle.laws.proofs.Tables.{all, near, near-at}
 use Rattle.history.specs.Ring.{Ring, window, rowOf}
@@ -85,31 +85,58 @@ getD-tabs (suc n) f (suc i) h = getD-tabs n (λ j. f (suc j)) i (le-of-suc-le-su
 pub place-high : (a : ℕ) (d : ℤ) (e : ℕ) → natAbs d ≤ e → natAbs (pos a +ℤ d) ≤ a + e
 place-high a d e h = omega (arith, abs-add (pos a) d)
 
--- a window of a ring's flat rows
-pub flat-view : (len first mid n col : ℕ) (slots idx : List ℕ) (dy dx : ℤ) → natAbs (pos mid +ℤ dy) < n → natAbs (pos col +ℤ dx) < len →
-    getD slots (len * getD idx (natAbs (pos mid +ℤ dy)) 0 + natAbs (pos col +ℤ dx)) 0 ≡
-    viewAround mid (tab n (λ j. rowOf len slots (getD idx j 0))) col dy dx
-flat-view len first mid n col slots idx dy dx h k =
+-- a window of a ring's flat rows, which stand from `first` on
+pub flat-view : (first len mid n col : ℕ) (rows idx : List ℕ) (dy dx : ℤ) → natAbs (pos mid +ℤ dy) < n → natAbs (pos col +ℤ dx) < len →
+    flatAround first len mid rows idx col dy dx ≡ viewAround mid (tab n (λ j. rowOf len (drop first rows) (getD idx j 0))) col dy dx
+flat-view first len mid n col rows idx dy dx h k =
     let j : ℕ = natAbs (pos mid +ℤ dy) in
     let c : ℕ = natAbs (pos col +ℤ dx) in
     let s : ℕ = getD idx j 0 in
-    let d : len * s + c ≡ s * len + c = ap (λ (z : ℕ). z + c) (mul-comm len s) in
+    let d : first + (s * len + c) ≡ first + len * s + c = omega (arith, mul-comm len s) in
     sym
-    (ap (λ (r : List ℕ). getD r c 0) (getD-tabs n (λ i. rowOf len slots (getD idx i 0)) j h) ∙
-    (getD-take len (drop (s * len) slots) c 0 k ∙ (getD-drop (s * len) slots c 0 ∙ ap (λ (z : ℕ). getD slots z 0) (sym d))))
+    (ap (λ (r : List ℕ). getD r c 0) (getD-tabs n (λ i. rowOf len (drop first rows) (getD idx i 0)) j h) ∙
+    (getD-take len (drop (s * len) (drop first rows)) c 0 k ∙
+    (getD-drop (s * len) (drop first rows) c 0 ∙ (getD-drop first rows (s * len + c) 0 ∙ ap (λ (z : ℕ). getD rows z 0) d))))
 
--- a number and what a tap of at most e leads to
-back : (y e : ℕ) (d : ℤ) → natAbs d ≤ e → pos (y + natAbs (pos e +ℤ d)) -ℤ pos e ≡ pos y +ℤ d
+-- a number and what a tap that leads to no place before 0 leads to
+back : (y e : ℕ) (d : ℤ) → T (nonNeg (pos e +ℤ d)) → pos (y + natAbs (pos e +ℤ d)) -ℤ pos e ≡ pos y +ℤ d
 back y e d h =
-    let n : pos (natAbs (pos e +ℤ d)) ≡ d +ℤ pos e = pos-natAbs (pos e +ℤ d) (nonneg-add e d h) ∙ +ℤ-comm (pos e) d in
+    let n : pos (natAbs (pos e +ℤ d)) ≡ d +ℤ pos e = pos-natAbs (pos e +ℤ d) h ∙ +ℤ-comm (pos e) d in
     ap (λ (z : ℤ). pos y +ℤ z -ℤ pos e) n ∙ (ap (λ (z : ℤ). z -ℤ pos e) (sym (+ℤ-assoc (pos y) d (pos e))) ∙ +ℤ-negℤ-cancel (pos y +ℤ d) (pos e))
 
+place-split : (a x e : ℕ) (d : ℤ) → T (nonNeg (pos e +ℤ d)) → e ≤ a → natAbs (pos (a + x) +ℤ d) ≡ a - e + (x + natAbs (pos e +ℤ d))
+place-split a x e d h k =
+    let m : a + x ≡ a - e + x + e = omega arith in
+    let n : pos (a + x) +ℤ d ≡ pos (a - e + x + natAbs (pos e +ℤ d)) =
+    ap (λ (z : ℕ). pos z +ℤ d) m ∙ (+ℤ-assoc (pos (a - e + x)) (pos e) d ∙ ap (λ (z : ℤ). pos (a - e + x) +ℤ z) (sym (pos-natAbs (pos e +ℤ d) h))) in
+    ap natAbs n ∙ omega arith
+
 -- a byte of a padded row is the padded sample that stands there
-module _ (op : Operation) (g : Given) (l : Lent) (p : List ℕ) (wide : g .w ≤ 64) where
-  pad-byte : (R i : ℕ) → i < border op + g .w + border op → rowOrigin - border op + (border op + g .w + border op) ≤ 76 →
+module _ (op : Operation) (g : Given) (l : Lent) (p : List ℕ) (wide : g .w ≤ 64) (high : border op ≤ 4) where
+  pad-byte : (R i : ℕ) → i < border op + g .w + border op →
       getD (padRow op g l p R) (rowOrigin - border op + i) 0 ≡ sampleAt op g l p (pos R -ℤ pos (border op)) (pos i -ℤ pos (border op))
   unfolding padRow
-  pad-byte R i h k =
+  pad-byte R i h =
       let f : ℕ → ℕ = λ j. sampleAt op g l p (pos R -ℤ pos (border op)) (pos j -ℤ pos (border op)) in
       let n : ℕ = border op + g .w + border op in
       sets-in (tab n f) (replicate rowBytes 0) (rowOrigin - border op) i (rw (length-tab n f) h) (rw (length-replicate {A = ℕ} rowBytes 0) (omega arith)) ∙ getD-tab n f i h
+
+  -- THE DEFINITION'S VIEW of sample (y, x): the n rows that are padded from row y - e on
+  pub row-view : (n y x : ℕ) (dy dx : ℤ) → T (nonNeg (pos (border op) +ℤ dy)) → natAbs (pos (border op) +ℤ dy) < n → T (nonNeg (pos (border op) +ℤ dx)) →
+      x + natAbs (pos (border op) +ℤ dx) < border op + g .w + border op →
+      viewAround (border op) (tab n (λ j. padRow op g l p (y + j))) (rowOrigin + x) dy dx ≡ around op g l p y x dy dx
+  row-view n y x dy dx ny lj nx li =
+      let e : ℕ = border op in
+      let j : ℕ = natAbs (pos e +ℤ dy) in
+      let c : natAbs (pos (rowOrigin + x) +ℤ dx) ≡ rowOrigin - e + (x + natAbs (pos e +ℤ dx)) = place-split rowOrigin x e dx nx (omega arith) in
+      ap (λ (r : List ℕ). getD r (natAbs (pos (rowOrigin + x) +ℤ dx)) 0) (getD-tabs n (λ k. padRow op g l p (y + k)) j lj) ∙
+      (ap (λ (m : ℕ). getD (padRow op g l p (y + j)) m 0) c ∙
+      (pad-byte (y + j) (x + natAbs (pos e +ℤ dx)) li ∙ (λ t. sampleAt op g l p (back y e dy ny t) (back x e dx nx t))))
+
+  -- within the border
+  pub pad-view : (y x : ℕ) → x < g .w →
+      Agree (border op) (viewAround (border op) (tab (border op + border op + 1) (λ j. padRow op g l p (y + j))) (rowOrigin + x)) (around op g l p y x)
+  pad-view y x hx dy dx ny nx =
+      let lj = place-high (border op) dy (border op) ny in
+      let li = place-high (border op) dx (border op) nx in
+      row-view (border op + border op + 1) y x dy dx (nonneg-add (border op) dy ny) (omega arith) (nonneg-add (border op) dx nx) (omega arith)

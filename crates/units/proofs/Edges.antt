@@ -1,0 +1,128 @@
+-- The border by an operation's number, and the rows above and below a unit by the bits of its edges. Assumes nothing.
+use mathlib.Core.Path.{_≡_, refl, sym, _∙_}
+use mathlib.Core.Bool.{Bool, true, false, cond, _||_}
+use Prim.Native.Nat.{ℕ, zero, suc, _+_, _-_, _≤_, _<_, min}
+use native.Mathlib.Omega.{arith}
+use Rattle.definition.specs.Padding.{hasTop, hasBottom, topIntegrated, bottomIntegrated}
+use Rattle.definition.specs.Units.{Operation, luma, user, pretrained, chroma, border, savedAbove}
+use Rattle.definition.specs.Refusals.{topRows, bottomRows, planeRows}
+use Rattle.model.specs.Rows.{belowRows}
+use Rattle.units.specs.States.{operationOf}
+
+pub border-four : (op : ℕ) → 1 ≤ op → op ≤ 3 → border (operationOf op) ≡ 4
+border-four zero h k = absurd (omega arith)
+border-four (suc zero) h k = refl
+border-four (suc (suc zero)) h k = refl
+border-four (suc (suc (suc zero))) h k = refl
+border-four (suc (suc (suc (suc n)))) h k = absurd (omega arith)
+
+pub border-two : (op : ℕ) → 3 < op → border (operationOf op) ≡ 2
+border-two zero h = absurd (omega arith)
+border-two (suc zero) h = absurd (omega arith)
+border-two (suc (suc zero)) h = absurd (omega arith)
+border-two (suc (suc (suc zero))) h = absurd (omega arith)
+border-two (suc (suc (suc (suc n)))) h = refl
+
+pub border-high : (op : Operation) → border op ≤ 4
+border-high luma = omega arith
+border-high user = omega arith
+border-high pretrained = omega arith
+border-high chroma = omega arith
+
+pub border-low : (op : Operation) → 2 ≤ border op
+border-low luma = omega arith
+border-low user = omega arith
+border-low pretrained = omega arith
+border-low chroma = omega arith
+
+-- chroma's two rows are its border, with either bit
+either : (int top : Bool) → _≡_ {A = ℕ} (cond (int || top) 2 0) (cond int 2 (cond top 2 0))
+either true top = refl
+either false top = refl
+
+module _ (op : Operation) (edges : ℕ) where
+  pub top-rows : topRows op edges ≡ cond (topIntegrated edges) (border op) (cond (hasTop edges) 2 0)
+  top-rows = of op
+    where
+      of : (op : Operation) → topRows op edges ≡ cond (topIntegrated edges) (border op) (cond (hasTop edges) 2 0)
+      of luma = refl
+      of user = refl
+      of pretrained = refl
+      of chroma = either (topIntegrated edges) (hasTop edges)
+
+  pub below-rows : belowRows op edges ≡ cond (bottomIntegrated edges) (border op) (cond (hasBottom edges) 2 0)
+  below-rows = of (bottomIntegrated edges) (hasBottom edges)
+    where
+      of : (int bottom : Bool) → cond int (border op) 0 + cond int 0 (cond bottom 2 0) ≡ cond int (border op) (cond bottom 2 0)
+      of true bottom = omega arith
+      of false true = refl
+      of false false = refl
+
+  rows-high : (int top : Bool) → cond int (border op) (cond top 2 0) ≤ border op
+  rows-high true top = omega arith
+  rows-high false true = border-low op
+  rows-high false false = omega arith
+
+  pub top-high : topRows op edges ≤ border op
+  top-high = rw top-rows (rows-high (topIntegrated edges) (hasTop edges))
+
+  pub below-high : belowRows op edges ≤ border op
+  below-high = rw below-rows (rows-high (bottomIntegrated edges) (hasBottom edges))
+
+  -- the rows by the bits as they are tested
+  pub top-integrated : {a : Bool} → a ≡ topIntegrated edges → a ≡ true → border op ≡ topRows op edges
+  top-integrated e h = sym (rw (top-rows, ← e, h))
+
+  pub top-saved : {a b : Bool} → a ≡ topIntegrated edges → a ≡ false → b ≡ hasTop edges → b ≡ true → 2 ≡ topRows op edges
+  top-saved e h f k = sym (rw (top-rows, ← e, h, ← f, k))
+
+  pub top-none : {a b : Bool} → a ≡ topIntegrated edges → a ≡ false → b ≡ hasTop edges → b ≡ false → 0 ≡ topRows op edges
+  top-none e h f k = sym (rw (top-rows, ← e, h, ← f, k))
+
+  pub below-integrated : {a : Bool} → a ≡ bottomIntegrated edges → a ≡ true → border op ≡ belowRows op edges
+  below-integrated e h = sym (below-rows ∙ rw (← e, h))
+
+  pub below-saved : {a b : Bool} → a ≡ bottomIntegrated edges → a ≡ false → b ≡ hasBottom edges → b ≡ true → 2 ≡ belowRows op edges
+  below-saved e h f k = sym (below-rows ∙ rw (← e, h, ← f, k))
+
+  pub below-none : {a b : Bool} → a ≡ bottomIntegrated edges → a ≡ false → b ≡ hasBottom edges → b ≡ false → 0 ≡ belowRows op edges
+  below-none e h f k = sym (below-rows ∙ rw (← e, h, ← f, k))
+
+some-above : (int top : Bool) (e : ℕ) → 0 < cond int e (cond top 2 0) → (int || top) ≡ true
+some-above true top e h = refl
+some-above false true e h = refl
+some-above false false e h = absurd (omega arith)
+
+-- a row above the unit that is padded anew is a saved one
+pub above-saved : (op : Operation) (edges : ℕ) → 0 < topRows op edges → (topIntegrated edges || hasTop edges) ≡ true
+above-saved op edges h = some-above (topIntegrated edges) (hasTop edges) (border op) (rw (top-rows op edges) at h)
+
+-- .. and the saved rows follow one another from the first of them
+four-above : (int top : Bool) (r : ℕ) → 4 - cond int 4 (cond top 2 0) ≤ r → r < 4 → cond int (3 - (4 - suc r)) (1 - (4 - suc r)) ≡ r - (4 - cond int 4 (cond top 2 0))
+four-above true top r h k = omega arith
+four-above false true r h k = omega arith
+four-above false false r h k = absurd (omega arith)
+
+two-above : (int top : Bool) (r : ℕ) → 2 - cond int 2 (cond top 2 0) ≤ r → r < 2 → 1 - (2 - suc r) ≡ r - (2 - cond int 2 (cond top 2 0))
+two-above true top r h k = omega arith
+two-above false true r h k = omega arith
+two-above false false r h k = absurd (omega arith)
+
+pub saved-above : (op : Operation) (edges r : ℕ) → border op - topRows op edges ≤ r → r < border op →
+    savedAbove op edges (border op - suc r) ≡ r - (border op - topRows op edges)
+saved-above luma edges r h k = four-above (topIntegrated edges) (hasTop edges) r h k
+saved-above user edges r h k = four-above (topIntegrated edges) (hasTop edges) r h k
+saved-above pretrained edges r h k = four-above (topIntegrated edges) (hasTop edges) r h k
+saved-above chroma edges r h k =
+    rw (top-rows chroma edges) (two-above (topIntegrated edges) (hasTop edges) r (rw (top-rows chroma edges) at h) k)
+
+-- a test of a bit, and what it found
+pub bit-is : {a b c : Bool} → a ≡ b → a ≡ c → b ≡ c
+bit-is e h = sym e ∙ h
+
+-- a row of the plane below the unit, and a saved row below it
+pub plane-row : (op : Operation) (edges h : ℕ) {y : ℕ} → y < h + border op → bottomIntegrated edges ≡ true → y < h + planeRows op edges
+plane-row op edges h k b = rw b k
+
+pub bottom-row : (edges m : ℕ) {n : ℕ} → n ≡ min m 1 → bottomIntegrated edges ≡ false → hasBottom edges ≡ true → n < bottomRows edges
+bottom-row edges m e a b = rw (a, b) (omega arith)

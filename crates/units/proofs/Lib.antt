@@ -1,0 +1,13 @@
+pub mod Every
+pub mod Refused
+pub mod Edges
+pub mod Rings
+pub mod Sources
+pub mod Firsts
+pub mod Stretches
+pub mod Runs
+pub mod Samples
+pub mod Copies
+pub mod Pieces
+pub mod Shapes
+pub mod Turns

@@ -1,0 +1,15 @@
+-- `luma::none` meets its contract. Assumes nothing.
+use borrow.Author.Needs.{needs}
+use Rattle.units.specs.Luma.{noState}
+use Rattle.units.proofs.luma.none.Statement.{statement}
+use Rattle.units.proofs.luma.none.Tie as tie
+
+no-numbers-requires : tie.Need-no-numbers-requires
+no-numbers-requires c κs = search needs
+
+returns : tie.Need-returns
+unfolding noState
+returns c = rw (c .no-numbers .ensures)
+
+pub none-spec : {M : Type 1} → statement M
+none-spec = tie.close (tie.spec no-numbers-requires returns)

@@ -1,0 +1,111 @@
+-- `units::restore::restore_p` meets its contract: the blocks below bx are done. Those before the next stretch are masked and stay; the stretch is one run under its class's set.
+-- Assumes nothing.
+use Prim.Native.Nat.{_-_, _/_, _≤_}
+use native.Mathlib.Omega.{arith}
+use Rattle.filter.specs.Runs.{coefficients}
+use Rattle.units.specs.Open.{pretrainedOpen, classedOpen}
+use Rattle.units.specs.Cells.{pretrainedCell}
+use Rattle.units.proofs.Firsts.{ClassStretch, class-stretch, all-kept}
+use Rattle.units.proofs.Stretches.{Done, none-done, kept-more, run-more, row-done}
+use Rattle.units.proofs.Samples.{pretrained-sample}
+use Rattle.units.proofs.restore.restore_p.Statement.{statement}
+use Rattle.units.proofs.restore.restore_p.Tie as tie
+
+abbrev Inv-loop : tie.InvT-loop
+Inv-loop p₀ at w rows indices filters classes mask bw bx₀ p bx =
+    (bx ≤ bw) × Done p₀ at mask (classedOpen rows indices filters classes) bx p
+
+abbrev μ-loop : tie.MeasureT-loop
+μ-loop p₀ at w rows indices filters classes mask bw bx₀ p bx = bw - bx
+
+loop-holds : tie.Need-loop-holds Inv-loop μ-loop
+loop-holds c = let a = c .before .args in (omega arith, none-done (a .p .now) (a .at) (a .mask) (classedOpen (a .rows .now) (a .indices .now) (a .filters .now) (a .classes .now)))
+
+class-stretch-requires : tie.Need-class-stretch-requires Inv-loop μ-loop
+class-stretch-requires c κs = tt
+
+-- the stretch that was found
+found : (c : tie.Then1 Inv-loop μ-loop) →
+    let a = c .before .before .before .before .before .args in
+    ClassStretch (a .mask) (a .classes .now) (c .before .before .before .loop .bx) (a .w / 4) (c .before .class-stretch .result .start) (c .before .class-stretch .result .end)
+found c =
+    let a = c .before .before .before .before .before .args in
+    let l = c .before .before .before .loop in
+    let s = c .before .class-stretch in
+    class-stretch (a .mask) (a .classes .now) (l .bx) (a .w / 4) (s .result .start) (omega arith) (l .inv .0) (s .ensures .0 .1) (s .result .end) (c .if1 .taken) (s .ensures .1)
+
+element-copy-out-pretrained-set : tie.Need-element-copy-out-pretrained-set Inv-loop μ-loop
+element-copy-out-pretrained-set c = omega arith
+
+pretrained-set-requires : tie.Need-pretrained-set-requires Inv-loop μ-loop
+pretrained-set-requires c κs = c .before .before .before .before .before .before .pre .1 .1 (c .before .before .class-stretch .result .start) (omega arith)
+
+mul-run-p : tie.Need-mul-run-p Inv-loop μ-loop
+mul-run-p c = let e = found (c .before .before .before) in record { fits = omega arith }
+
+mul-run-p-2 : tie.Need-mul-run-p-2 Inv-loop μ-loop
+mul-run-p-2 c = let e = found (c .before .before .before) in record { fits = omega arith }
+
+run-p-requires : tie.Need-run-p-requires Inv-loop μ-loop
+run-p-requires c κs =
+    let e = found (c .before .before .before .before) in
+    let l = c .before .before .before .before .before .before .before .loop in
+    ((omega arith, omega arith, omega (arith, l .inv .1 .same)), c .before .before .before .before .before .before .before .before .before .pre .1 .0)
+
+loop-less : tie.Need-loop-less Inv-loop μ-loop
+loop-less c = let e = found (c .before .before .before .before .before .before .before) in omega arith
+
+loop-again : tie.Need-loop-again Inv-loop μ-loop
+loop-again c =
+    let s = c .before .before .before .before .before .before .before .before .class-stretch in
+    let l = c .before .before .before .before .before .before .before .before .before .before .loop in
+    let a = c .before .before .before .before .before .before .before .before .before .before .before .before .args in
+    let e = found (c .before .before .before .before .before .before .before) in (
+      e .low,
+      run-more (pretrainedOpen (a .rows .now) (a .indices .now) (coefficients (c .before .before .before .before .before .pretrained-set .result)))
+          (omega arith) (e .clear) (kept-more (e .from) (e .kept) (l .inv .1)) (c .before .before .run-p .ensures)
+          (λ x g h. pretrained-sample e (a .rows .now) (a .indices .now) (a .filters .now) (c .before .before .before .before .before .pretrained-set .result) x g h (c .before .before .before .before .before .pretrained-set .ensures)),
+    )
+
+loop-less-2 : tie.Need-loop-less-2 Inv-loop μ-loop
+loop-less-2 c = omega arith
+
+loop-again-2 : tie.Need-loop-again-2 Inv-loop μ-loop
+loop-again-2 c =
+    let s = c .before .class-stretch in
+    let l = c .before .before .before .loop in
+    let a = c .before .before .before .before .before .args in (
+      omega arith,
+      kept-more (l .inv .0)
+          (all-kept (a .mask) (a .classes .now) (l .bx) (a .w / 4) (s .result .start) (omega arith) (l .inv .0) (s .ensures .0 .1) (c .if1 .left)) (l .inv .1),
+    )
+
+same-length : tie.Need-same-length Inv-loop μ-loop
+same-length c = c .before .loop .inv .1 .same
+
+returns : tie.Need-returns Inv-loop μ-loop
+unfolding pretrainedCell pretrainedOpen classedOpen
+returns c =
+    let a = c .before .before .before .args in
+    let l = c .before .loop in
+    row-done (a .w) (omega arith) (l .inv .1)
+
+pub restore-p-spec : {M : Type 1} → statement M
+restore-p-spec =
+    tie.close
+    (tie.spec
+    Inv-loop
+    μ-loop
+    loop-holds
+    class-stretch-requires
+    element-copy-out-pretrained-set
+    pretrained-set-requires
+    mul-run-p
+    mul-run-p-2
+    run-p-requires
+    loop-less
+    loop-again
+    loop-less-2
+    loop-again-2
+    same-length
+    returns)

@@ -1,0 +1,39 @@
+-- `units::rows::rows_above` meets its contract: the rows by the two bits, as `Edges` has them. Assumes nothing.
+use mathlib.Core.Path.{_∙_}
+use borrow.Author.Needs.{needs}
+use Rattle.units.specs.States.{operationOf}
+use Rattle.units.proofs.Edges.{top-integrated, top-saved, top-none}
+use Rattle.units.proofs.rows.rows_above.Statement.{statement}
+use Rattle.units.proofs.rows.rows_above.Tie as tie
+
+is-set-requires : tie.Need-is-set-requires
+is-set-requires c κs = search needs
+
+border-of-requires : tie.Need-border-of-requires
+border-of-requires c κs = search needs
+
+returns : tie.Need-returns
+returns c =
+    let t = c .before in
+    let a = t .before .before .args in
+    c .border-of .ensures ∙ top-integrated (operationOf (a .op)) (a .edges) (t .before .is-set .ensures) (t .if1 .taken)
+
+is-set-requires-2 : tie.Need-is-set-requires-2
+is-set-requires-2 c κs = search needs
+
+returns-2 : tie.Need-returns-2
+returns-2 c =
+    let t = c .before .before in
+    let a = t .before .before .args in
+    top-saved (operationOf (a .op)) (a .edges) (t .before .is-set .ensures) (t .if1 .left) (c .before .is-set2 .ensures) (c .if2 .taken)
+
+returns-3 : tie.Need-returns-3
+returns-3 c =
+    let t = c .before .before in
+    let a = t .before .before .args in
+    top-none (operationOf (a .op)) (a .edges) (t .before .is-set .ensures) (t .if1 .left) (c .before .is-set2 .ensures) (c .if2 .left)
+
+pub rows-above-spec : {M : Type 1} → statement M
+rows-above-spec =
+    tie.close
+    (tie.spec is-set-requires border-of-requires returns is-set-requires-2 returns-2 returns-3)

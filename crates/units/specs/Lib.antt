@@ -1,0 +1,12 @@
+pub mod States
+pub mod Table
+pub mod Windows
+pub mod Cells
+pub mod Open
+pub mod Operations
+pub mod Openings
+pub mod Classed
+pub mod Chroma
+pub mod Luma
+pub mod LumaHistory
+pub mod ClassedHistory

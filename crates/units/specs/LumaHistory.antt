@@ -1,0 +1,194 @@
+-- DEMAND 3 FOR LUMA UNITS: what the shared theorem asks of them, and so what holds after any list of advances and overwritings. Assumes nothing.
+use mathlib.Core.Path.{_≡_, refl, sym, _∙_, ap}
+use mathlib.Core.Bool.{Bool, true, false, cond, not, _||_}
+use mathlib.Core.List.{List, [], _∷_}
+use mathlib.Core.Logic.{_≢_}
+use Prim.Native.Nat.{ℕ, zero, suc, _+_, _*_, _-_, _/_, _%_, _≤_, _<_, min, zero-le}
+use native.Mathlib.Nat.{mul-le-mul-right, add-mul, zero-add}
+use native.Mathlib.Decide.{decLt}
+use native.Mathlib.Omega.{arith}
+use lib.Dec.{eqb, ltb, leb}
+use lib.IntN.{pos}
+use lib.ListN.{length, getD, replicate, length-replicate}
+use lib.Seq.{sets}
+use borrow.Author.Tests.{le-ltb, le-leb, eq-eqb, ne-eqb}
+use Rattle.definition.specs.Rows.{tab, rowBytes, rowOrigin, lumaFlat}
+use Rattle.definition.specs.Blocks.{side, maskAt, masked, piecesOf}
+use Rattle.definition.specs.Sample.{limit8, lumaSample}
+use Rattle.definition.specs.Units.{luma, Given, Lent, finalSample, around, setOf}
+use Rattle.definition.specs.Refusals.{sizesOf, unitStatus, indicesUpTo, planeRows}
+use Rattle.filter.specs.Runs.{coefficients}
+use Rattle.laws.proofs.Lists.{tab-cong}
+use Rattle.laws.proofs.Passes.{pass-all}
+use Rattle.history.specs.History.{Opened, World, Like, History, opened, _▷_, advance, write, run, last, Valid, After}
+use Rattle.history.specs.Ring.{Ring, fetch, shift, window, wrap}
+use Rattle.history.specs.Memory.{Memory, From, ring}
+use Rattle.history.specs.Operation.{Frame, unitOf}
+use Rattle.history.specs.Theorem.{Given as Shown, theorem}
+use Rattle.model.specs.Rows.{padRow, own, src, pad-same, ring-rule}
+use Rattle.model.specs.Opening.{openRing, opens}
+use Rattle.model.specs.Fine.{Fine, fine}
+use Rattle.model.specs.Views.{Agree, luma-agree, viewAround, flat-view, pad-view, place-high}
+use Rattle.units.specs.declared.Numbers.{Numbers}
+use Rattle.units.specs.declared.State.{State}
+use Rattle.units.specs.States.{givenOf}
+use Rattle.units.specs.Cells.{lumaCell}
+use Rattle.units.specs.Operations.{Call, units, answer, statusOf, badState, took, lumaState, lumaPlane}
+use Rattle.units.specs.Luma.{lumaCall, openState, openStatus, Whole}
+use Rattle.units.specs.declared.Restored.{Restored}
+
+-- the slot of row R of nine
+abbrev pub slot : ℕ → ℕ
+slot R = R % 9
+
+pub wraps : (a : ℕ) → slot (a + 1) ≡ wrap 9 (slot a)
+wraps a =
+    elim (decLt (a % 9) 8) [
+      | yes lt ↦ rw (ne-eqb (a % 9 + 1) 9 (omega arith)) (omega arith)
+      | no ge ↦ rw (eq-eqb (a % 9 + 1) 9 (omega arith)) (omega arith)
+    ]
+
+-- sample x of row y, from the list of the rows that the filter sees
+unfoldable pub lumaSeen : Lent → ℕ → List (List ℕ) → ℕ → ℕ → ℕ
+lumaSeen l y rows old x =
+    cond (masked (maskAt (l .skip) y) (x / side)) old (lumaSample limit8 (viewAround 4 rows (rowOrigin + x)) (coefficients (l .filters)))
+
+-- over a ring's flat rows it is the cell that the code writes
+cell-seen : (l : Lent) (y : ℕ) (g : Ring) (old x : ℕ) → x < 64 →
+    lumaCell (g .slots) (g .idx) (l .filters) (maskAt (l .skip) y) old x ≡ lumaSeen l y (tab 9 (window rowBytes g)) old x
+unfolding lumaCell lumaSeen
+cell-seen l y g old x h =
+    ap (cond (masked (maskAt (l .skip) y) (x / side)) old)
+    (luma-agree limit8 (lumaFlat (g .slots) (g .idx) (rowOrigin + x)) (viewAround 4 (tab 9 (window rowBytes g)) (rowOrigin + x)) (coefficients (l .filters)) (coefficients (l .filters))
+    (λ dy dx ny nx.
+    let r = place-high 4 dy 4 ny in
+    let c = place-high (rowOrigin + x) dx 4 nx in
+    flat-view 0 rowBytes 4 9 (rowOrigin + x) (g .slots) (g .idx) dy dx (omega arith) (omega arith))
+    (λ k m. refl))
+
+zeros-low : (j : ℕ) → getD (0 ∷ 0 ∷ []) j 0 ≤ 9
+zeros-low zero = zero-le
+zeros-low (suc zero) = zero-le
+zeros-low (suc (suc j)) = zero-le
+
+-- the unit that was opened
+abbrev pub lumaFrame : Numbers → Lent → List ℕ → Frame State Call (Unit {0})
+lumaFrame n l p =
+    record {
+      own = λ a k. lumaCall k l;
+      ok = λ a. true;
+      w = n .w;
+      h = n .h;
+      off = n .off;
+      stride = n .stride;
+      first = openState n l p;
+      plane = p;
+      final = λ a y x. finalSample (givenOf n) l p luma y x;
+      pieces = λ a k m. piecesOf (l .skip) (n .w / side) k m;
+    }
+
+abbrev pub lumaUnit : Numbers → Lent → List ℕ → Opened State Call (Unit {0})
+lumaUnit n l p = unitOf units (lumaFrame n l p)
+
+module _ (n : Numbers) (l : Lent) (p₀ : List ℕ) (f : openStatus n l p₀ ≡ 0) where
+  pub good : Fine luma (givenOf n) (sizesOf luma l p₀)
+  good = fine luma (givenOf n) (sizesOf luma l p₀) f
+
+  abbrev pub rows : Memory Ring (List (List ℕ)) (n .h) (λ k. n .off + k * n .stride) p₀
+  rows =
+      ring rowBytes 8 9 slot (src luma (givenOf n)) (own luma (givenOf n)) (padRow luma (givenOf n) l)
+      (ring-rule luma (givenOf n) l p₀ (omega (arith, good .tall .low)) 9 slot (omega arith) (λ a. omega arith) (λ a b h k. omega arith) wraps)
+      (λ k p hk e o. pad-same luma (givenOf n) l p p₀ k (omega (arith, good .apart, good .wide .low)) e (k + 8) (omega arith) hk)
+
+  abbrev pub there : ℕ → Ring → State
+  there k m = record { op = 1; numbers = n; done = k; next = m .next; classes = replicate 16 0; indices = m .idx; rows = m .slots }
+
+  row-room : (k : ℕ) → k < n .h → n .off + k * n .stride + n .w ≤ length p₀
+  row-room k h = omega (arith, good .plane .high, good .tall .low, mul-le-mul-right (n .stride) (within k h))
+    where
+      within : (k : ℕ) → k < n .h → k ≤ n .h + planeRows luma (n .edges) - 1
+      within k h = omega arith
+
+  -- the checks let a state pass that was reached
+  admits : (c k : ℕ) (m : Ring) (p : List ℕ) → rows .At k m → k ≤ n .h → length p ≡ length p₀ → statusOf (lumaCall c l) (there k m) p ≡ 0
+  unfolding statusOf badState
+  admits c k m p a h e =
+      let i : indicesUpTo 9 (m .idx) ≡ true = pass-all (λ j. leb j 9) (m .idx) 10 (λ j hj. le-leb (getD (m .idx) j 0) 9 (a .holds .bounded j)) in
+      let d : ltb (n .h) k ≡ false = le-ltb (n .h) k h in
+      let t : ltb 8 (m .next) ≡ false = le-ltb 8 (m .next) (rw (a .next) (omega arith)) in
+      let u : unitStatus luma (givenOf n) (sizesOf luma l p) ≡ 0 = rw e f in
+      rw (d, i, t) u
+
+  -- the definition's sample is the one over the padded rows at the opening
+  final-seen : (y x : ℕ) → x < n .w →
+      finalSample (givenOf n) l p₀ luma y x ≡ lumaSeen l y (tab 9 (λ j. padRow luma (givenOf n) l p₀ (y + j))) (getD p₀ (n .off + y * n .stride + x) 0) x
+  unfolding finalSample lumaSeen
+  final-seen y x h =
+      ap (cond (masked (maskAt (l .skip) y) (x / side)) (getD p₀ (n .off + y * n .stride + x) 0))
+      (sym
+      (luma-agree limit8 (viewAround 4 (tab 9 (λ j. padRow luma (givenOf n) l p₀ (y + j))) (rowOrigin + x)) (around luma (givenOf n) l p₀ y x) (coefficients (l .filters)) (setOf luma (l .filters) 0)
+      (pad-view luma (givenOf n) l p₀ (good .wide .high) (omega arith) y x h)
+      (λ k m. let z : k ≡ 16 * 0 + k = omega arith in ap (λ (i : ℕ). getD (l .filters) i (pos 0)) z)))
+
+  pub luma-shown : Shown units (lumaFrame n l p₀) rows (λ a. lumaSeen l) there
+  unfolding openState openRing lumaState lumaPlane took
+  luma-shown =
+      record {
+        apart = omega (arith, good .apart);
+        room = row-room;
+        first = openRing luma (givenOf n) l p₀ (replicate 1080 0) (0 ∷ 0 ∷ []);
+        opens = refl;
+        holds =
+            opens luma (givenOf n) l p₀ (replicate 1080 0) (0 ∷ 0 ∷ []) (good .tall .low) (omega (arith, good .tall .low)) 9 slot (omega arith)
+            (λ j h. omega arith) (rw (length-replicate {A = ℕ} 1080 0) (omega arith)) (omega arith) zeros-low;
+        rows = λ k m. refl;
+        height = λ k m. refl;
+        complete = λ k m. refl;
+        count = λ a c. refl;
+        admits = λ a c k m p ok at h like. admits c k m p at h (like .size);
+        pieces = λ a c k j m. refl;
+        final = λ a y x hy hx. final-seen y x hx;
+        steps = λ a c k m p hk at.
+            λ i.
+            record {
+              state = there (k + 1) (shift 8 (rows .take k p m));
+              plane =
+                  sets p (n .off + k * n .stride)
+                  (tab-cong (n .w) _ _
+                  (λ x hx. cell-seen l k (rows .take k p m) (getD p (n .off + k * n .stride + x) 0) x (omega (arith, good .wide .high)))
+                  i);
+            };
+      }
+
+  -- DEMAND 3
+  pub luma-history : (H : History Call (Unit {0})) → Valid (lumaUnit n l p₀) H → After (lumaUnit n l p₀) H
+  luma-history = theorem units (lumaFrame n l p₀) rows (λ a. lumaSeen l) there luma-shown
+
+  -- THE WHOLE UNIT: demand 2, from the theorem at the history of one advance by all rows
+  all-rows : min (n .h) (0 + n .h) ≡ n .h
+  all-rows = omega arith
+
+  none-yet : min (n .h) 0 ≡ 0
+  none-yet = omega arith
+
+  pub whole-of : (r : Restored) (q : List ℕ) → r .status ≡ answer (lumaCall (n .h) l) (openState n l p₀) p₀ .status →
+      r .pieces ≡ answer (lumaCall (n .h) l) (openState n l p₀) p₀ .pieces → q ≡ answer (lumaCall (n .h) l) (openState n l p₀) p₀ .plane → Whole r n l p₀ q
+  whole-of r q es ep eq =
+      let before = luma-history opened tt in
+      let after = luma-history (opened ▷ advance tt (n .h)) (tt, refl) in
+      let rows-before : n .h - 0 ≡ n .h = omega arith in
+      record {
+        status = es ∙ (before .status tt (n .h) refl ∙ sym f);
+        pieces = λ z. ep ∙ (before .pieces tt (n .h) refl ∙ rw (none-yet, all-rows, rows-before));
+        plane = λ z.
+            rw eq
+            (record {
+              size = after .size;
+              here = λ y x hy hx. after .here y x (rw all-rows hy) hx ∙ fresh y x;
+              other = λ i h. after .other i (λ y x lo hi hx. h y x (rw all-rows at hi) hx);
+            });
+        none = λ z. absurd (z f);
+      }
+    where
+      fresh : (y x : ℕ) → last (lumaUnit n l p₀) (opened ▷ advance tt (n .h)) y x ≡ finalSample (givenOf n) l p₀ luma y x
+      fresh y x = rw (le-leb (min (n .h) 0) y (omega arith))

@@ -1,0 +1,190 @@
+-- An advance over any state: its status, and the step of one row for each kind of unit. What is left to believe here is that these steps are what
+-- the theorem of the histories speaks of; that theorem then says, of a unit that was opened, that the samples are the definition's.
+use mathlib.Core.Path.{_≡_}
+use mathlib.Core.Bool.{Bool, true, false, cond, not, _&&_, _||_}
+use mathlib.Core.List.{List, [], _∷_, _++_}
+use Prim.Native.Nat.{ℕ, zero, suc, _+_, _*_, _-_, _/_, _%_, _^_, _≤_, _<_}
+use lib.Dec.{eqb}
+use lib.IntN.{ℤ, pos, _-ℤ_}
+use lib.ListN.{length, getD, set, take, drop, replicate}
+use lib.Seq.{sets}
+use Rattle.definition.specs.Rows.{tab, rowBytes, rowOrigin, lumaRowBytes, lumaRowsAt, lumaFlat}
+use Rattle.definition.specs.Blocks.{side, maskAt, piecesOf}
+use Rattle.definition.specs.ClassIndex.{classIndex}
+use Rattle.definition.specs.Units.{Operation, luma, user, pretrained, chroma, border, Given, Lent, step}
+use Rattle.definition.specs.Refusals.{Check, _⇒_, lowest, sizesOf, unitStatus, badShape, badKept}
+use Rattle.history.specs.History.{World, Out}
+use Rattle.history.specs.Ring.{Ring, fetch, shift}
+use Rattle.history.specs.Operation.{Operation as Op, advanced}
+use Rattle.model.specs.Rows.{padRow, own}
+use Rattle.model.specs.LumaRows.{lumaPadRow}
+use Rattle.units.specs.declared.Numbers.{Numbers}
+use Rattle.units.specs.declared.State.{State}
+use Rattle.units.specs.declared.Advanced.{Advanced}
+use Rattle.units.specs.States.{givenOf}
+use Rattle.units.specs.Windows.{ring}
+use Rattle.units.specs.Cells.{lumaCell, userCell, pretrainedCell, chromaCell}
+
+-- the number of an operation in a state: 0 is none
+abbrev pub numberOf : Operation → ℕ
+numberOf luma = 1
+numberOf user = 2
+numberOf pretrained = 3
+numberOf chroma = 4
+
+-- a call of advance: which operation, how many rows, and all that is lent besides the plane
+pub record Call : Type 0 where
+  pub op : Operation
+  pub count : ℕ
+  pub lent : Lent
+
+-- 13: the state's shape, and the kept classes
+unfoldable pub badState : Operation → State → ℕ → Bool
+badState op s filters =
+    badShape op (not (eqb (s .op) (numberOf op))) (s .done) (s .numbers .h) (s .indices) (s .next) || badKept op (s .classes) filters
+
+-- 13 precedes all; the whole unit is checked again
+unfoldable pub statusOf : Call → State → List ℕ → ℕ
+statusOf c s p =
+    cond (badState (c .op) s (length (c .lent .filters))) 13 (unitStatus (c .op) (givenOf (s .numbers)) (sizesOf (c .op) (c .lent) p))
+
+-- finished: of an operation, and all its rows done
+abbrev pub isFinished : State → Bool
+isFinished s = not (eqb (s .op) 0) && eqb (s .done) (s .numbers .h)
+
+-- the state with other rows done, classes and ring
+abbrev pub moved : State → ℕ → List ℕ → Ring → State
+moved s done classes g =
+    record {
+      op = s .op;
+      numbers = s .numbers;
+      done = done;
+      next = g .next;
+      classes = classes;
+      indices = g .idx;
+      rows = g .slots;
+    }
+
+abbrev pub ringOf : State → Ring
+ringOf s = ring (s .rows) (s .indices) (s .next)
+
+-- where the next row to be restored starts
+abbrev pub startOf : State → ℕ
+startOf s = s .numbers .off + s .done * s .numbers .stride
+
+-- LUMA. The newest row is padded, the row restored, the window moved on.
+module _ (op : Operation) (l : Lent) (s : State) (p : List ℕ) where
+  unfoldable pub took : Ring
+  took =
+      fetch rowBytes (border op + border op) (own op (givenOf (s .numbers)) (s .done + (border op + border op)))
+      (padRow op (givenOf (s .numbers)) l p (s .done + (border op + border op)))
+      (ringOf s)
+
+  -- the row with cell x by the rule `cell`, over the ring g
+  abbrev pub painted : (ℕ → ℕ → ℕ) → List ℕ
+  painted cell = sets p (startOf s) (tab (s .numbers .w) (λ x. cell (getD p (startOf s + x) 0) x))
+
+unfoldable pub lumaState : Lent → State → List ℕ → State
+lumaState l s p = moved s (s .done + 1) (s .classes) (shift 8 (took luma l s p))
+
+unfoldable pub lumaPlane : Lent → State → List ℕ → List ℕ
+lumaPlane l s p =
+    painted luma l s p (lumaCell (took luma l s p .slots) (took luma l s p .idx) (l .filters) (maskAt (l .skip) (s .done)))
+
+abbrev pub lumaStep : Lent → World State → World State
+lumaStep l x = record { state = lumaState l (x .state) (x .plane); plane = lumaPlane l (x .state) (x .plane) }
+
+-- CLASSED. At the start of a block row the row five below is padded into the tenth slot, and the classes of its blocks are worked out; the others stay.
+abbrev pub begins : ℕ → Bool
+begins k = eqb (k % side) 0
+
+abbrev pub withTenth : List ℕ → Ring → Ring
+withTenth row g = record { slots = sets (g .slots) (9 * rowBytes) row; idx = set (g .idx) 9 9; next = g .next }
+
+-- the class of block bx of the block row that row y is in, from the rows that a ring holds
+unfoldable pub classAt : Given → Lent → Ring → ℕ → ℕ → ℕ
+classAt g l r y bx =
+    getD (l .subclass)
+    (getD (l .map) (classIndex (lumaFlat (r .slots) (r .idx) (rowOrigin + side * bx)) (l .noskip) (l .q) bx (y / side) (g .h / side)) 0)
+    0
+
+module _ (op : Operation) (l : Lent) (s : State) (p : List ℕ) where
+  unfoldable pub tookClassed : Ring
+  tookClassed =
+      cond (begins (s .done)) (withTenth (padRow op (givenOf (s .numbers)) l p (s .done + 9)) (took op l s p)) (took op l s p)
+
+  unfoldable pub classesNow : List ℕ
+  classesNow =
+      cond (begins (s .done)) (sets (s .classes) 0 (tab (s .numbers .w / side) (classAt (givenOf (s .numbers)) l tookClassed (s .done)))) (s .classes)
+
+unfoldable pub classedState : Operation → Lent → State → List ℕ → State
+classedState op l s p = moved s (s .done + 1) (classesNow op l s p) (shift 8 (tookClassed op l s p))
+
+unfoldable pub userPlane : Lent → State → List ℕ → List ℕ
+userPlane l s p =
+    painted user l s p
+    (userCell (tookClassed user l s p .slots) (tookClassed user l s p .idx) (l .filters) (classesNow user l s p) (maskAt (l .skip) (s .done)))
+
+unfoldable pub pretrainedPlane : Lent → State → List ℕ → List ℕ
+pretrainedPlane l s p =
+    painted pretrained l s p
+    (pretrainedCell (tookClassed pretrained l s p .slots) (tookClassed pretrained l s p .idx) (l .filters) (classesNow pretrained l s p) (maskAt (l .skip) (s .done)))
+
+-- CHROMA. Five rows of 76 bytes and five indices, then five luma rows of 140 and their indices.
+abbrev pub chromaRing : State → Ring
+chromaRing s = ring (take lumaRowsAt (s .rows)) (take 5 (s .indices)) (s .next)
+
+abbrev pub lumaRing : State → Ring
+lumaRing s = ring (drop lumaRowsAt (s .rows)) (drop 5 (s .indices)) (s .next)
+
+module _ (l : Lent) (s : State) (p : List ℕ) where
+  unfoldable pub tookOwn : Ring
+  tookOwn =
+      fetch rowBytes 4 (own chroma (givenOf (s .numbers)) (s .done + 4)) (padRow chroma (givenOf (s .numbers)) l p (s .done + 4)) (chromaRing s)
+
+  unfoldable pub tookLuma : Ring
+  tookLuma =
+      fetch lumaRowBytes 4 (own chroma (givenOf (s .numbers)) (s .done + 4)) (lumaPadRow (givenOf (s .numbers)) l (s .done + 4)) (lumaRing s)
+
+  -- both rings in the state's arrays
+  abbrev pub joined : Ring → Ring → Ring
+  joined c m = ring (c .slots ++ m .slots) (c .idx ++ m .idx) (c .next)
+
+unfoldable pub chromaState : Lent → State → List ℕ → State
+chromaState l s p = moved s (s .done + 1) (s .classes) (joined l s p (shift 4 (tookOwn l s p)) (shift 4 (tookLuma l s p)))
+
+unfoldable pub chromaPlane : Lent → State → List ℕ → List ℕ
+chromaPlane l s p =
+    painted chroma l s p
+    (chromaCell (joined l s p (tookOwn l s p) (tookLuma l s p) .slots) (joined l s p (tookOwn l s p) (tookLuma l s p) .idx)
+    (step (givenOf (s .numbers)) l) (l .filters) (maskAt (l .skip) (s .done)))
+
+-- the step of each kind
+abbrev pub stepOf : Operation → Lent → World State → World State
+stepOf luma l x = lumaStep l x
+stepOf user l x = record { state = classedState user l (x .state) (x .plane); plane = userPlane l (x .state) (x .plane) }
+stepOf pretrained l x = record { state = classedState pretrained l (x .state) (x .plane); plane = pretrainedPlane l (x .state) (x .plane) }
+stepOf chroma l x = record { state = chromaState l (x .state) (x .plane); plane = chromaPlane l (x .state) (x .plane) }
+
+-- THE OPERATION over any state
+abbrev pub units : Op State Call
+units =
+    record {
+      status = statusOf;
+      count = λ c. c .count;
+      rows = λ s. s .done;
+      height = λ s. s .numbers .h;
+      complete = isFinished;
+      step = λ c. stepOf (c .op) (c .lent);
+      pieces = λ c s n. piecesOf (c .lent .skip) (s .numbers .w / side) (s .done) n;
+    }
+
+abbrev pub answer : Call → State → List ℕ → Out State
+answer c s p = advanced units c s p
+
+-- the code's answer and the plane that it left are that
+pub record Answered (r : Advanced) (q : List ℕ) (o : Out State) : Type 0 where
+  pub status : r .status ≡ o .status
+  pub pieces : r .pieces ≡ o .pieces
+  pub state : r .state ≡ o .state
+  pub plane : q ≡ o .plane

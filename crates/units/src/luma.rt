@@ -1,0 +1,318 @@
+// Luma units: what an advance and an opening are made of.
+ghost use mathlib.Core.Path.{_≡_};
+ghost use Prim.Native.Nat.{ℕ, _+_, _*_, _-_, _/_, _≤_, _<_, min};
+ghost use lib.ListN.{length, getD};
+ghost use mathlib.Core.Bool.{not};
+ghost use lib.Dec.{eqb};
+ghost use Rattle.definition.specs.Blocks.{piecesOf, maskAt};
+ghost use Rattle.definition.specs.Refusals.{unitStatus, badShape};
+ghost use Rattle.definition.specs.Units.{luma};
+ghost use Rattle.units.specs.States.{givenOf};
+ghost use Rattle.units.specs.Windows.{RowsLie, ring, rowsLent};
+ghost use Rattle.units.specs.Operations.{answer, Answered};
+ghost use Rattle.units.specs.Luma.{lumaLent, lumaCall, lumaSizes, statusBy, Admitted, numbersY, noState, openState, Begun, Stepped};
+use crate::Advanced;
+use crate::Numbers;
+use crate::Opened;
+use crate::State;
+use crate::refusals::Sizes;
+
+pub fn least(a: usize, b: usize) -> usize
+    ensures { λ r. ⌜ r ≡ min a b ⌝ }
+{
+    if a < b {
+        return a;
+    }
+    b
+}
+
+// The table for an opening, by lengths. There is no map.
+pub fn unit_status(
+    g: Numbers,
+    plane: usize,
+    left: usize,
+    top: usize,
+    bottom: usize,
+    filters: usize,
+    skip: usize,
+) -> u8
+    ensures { λ r. ⌜ r ≡ unitStatus luma (givenOf g) (lumaSizes plane left top bottom filters skip) ⌝ }
+{
+    let z = Sizes {
+        plane,
+        left,
+        top,
+        bottom,
+        luma_plane: 0,
+        luma_top: 0,
+        luma_bottom: 0,
+        skip,
+        noskip: 0,
+        filters,
+        bad_map: true,
+    };
+    crate::refusals::unit_status(1, g, z)
+}
+
+// The table for an advance: the state's shape comes first.
+pub fn status(
+    s: State,
+    plane: usize,
+    left: usize,
+    top: usize,
+    bottom: usize,
+    filters: usize,
+    skip: usize,
+) -> u8
+    ensures { λ r. ⌜ r ≡ statusBy s (lumaSizes plane left top bottom filters skip) ⌝ }
+{
+    if bad_shape(s) {
+        return 13;
+    }
+    unit_status(s.numbers, plane, left, top, bottom, filters, skip)
+}
+
+// Of another operation, rows done over h, a row index over 9 or a next row over 8.
+fn bad_shape(s: State) -> bool
+    ensures { λ r. ⌜ r ≡ badShape luma (not (eqb (s .op) 1)) (s .done) (s .numbers .h) (s .indices) (s .next) ⌝ }
+{
+    let indices = s.indices;
+    if s.op != 1 {
+        return true;
+    }
+    if s.numbers.h < s.done {
+        return true;
+    }
+    if !bounds::indices_up_to(&indices, 9) {
+        return true;
+    }
+    8 < s.next
+}
+
+// The pieces of n rows from row k on.
+pub fn pieces_of_rows(skip: &[u16], bw: usize, k: usize, n: usize) -> usize
+    requires { ⌜ (bw ≤ 16) × (k + n ≤ 64) × (k + n ≤ length (now skip)) ⌝ }
+    ensures { λ r. ⌜ r ≡ piecesOf (now (skip .entry)) bw k n ⌝ }
+{
+    let mut pieces = 0;
+    let mut i = 0;
+    while i < n {
+        let mask = mask_of_row(skip, k + i);
+        let row = blocks::pieces_of_row(mask, bw);
+        pieces += row.pieces;
+        i += 1;
+    }
+    pieces
+}
+
+// Of four numbers for each block row the first is used.
+pub fn mask_of_row(skip: &[u16], y: usize) -> u16
+    requires { ⌜ y < length (now skip) ⌝ }
+    ensures { λ r. ⌜ r ≡ maskAt (now (skip .entry)) y ⌝ }
+{
+    let at = y / 4 * 4;
+    skip[at]
+}
+
+// The filter's 16 numbers, by value.
+pub fn filter_of(filter: &[i8]) -> [i8; 16]
+    requires { ⌜ length (now filter) ≡ 16 ⌝ }
+    ensures { λ r. ⌜ r ≡ now (filter .entry) ⌝ }
+{
+    let mut f = [0i8; 16];
+    let mut k = 0;
+    while k < 16 {
+        f[k] = filter[k];
+        k += 1;
+    }
+    f
+}
+
+// One row: the newest row of the window is padded, the row is restored, the window moves on. The next slot is handed back.
+pub fn row(
+    g: Numbers,
+    done: usize,
+    p: &mut [u8],
+    left: &[u8],
+    top: &[u8],
+    bottom: &[u8],
+    filter: &[i8; 16],
+    mask: u16,
+    rows: &mut [u8; 1080],
+    indices: &mut [usize; 10],
+    next: usize,
+) -> usize
+    requires { ⌜ RowsLie luma (givenOf g) (length (now p)) (length (now left)) (length (now top)) (length (now bottom)) ⌝ }
+    requires { ⌜ (done < g .h) × (next ≤ 8) ⌝ }
+    requires { ⌜ ((j : ℕ) → getD (now indices) j 0 ≤ 9) ⌝ }
+    ensures { λ r. ⌜ Stepped g done (rowsLent (now (left .entry)) (now (top .entry)) (now (bottom .entry))) (now (filter .entry)) mask (now (p .entry)) (ring (now (rows .entry)) (now (indices .entry)) next) (now (p .exit)) (ring (now (rows .exit)) (now (indices .exit)) r) ⌝ }
+{
+    let turned = crate::rows::fetch_row(1, g, done, p, left, top, bottom, rows, indices, next);
+    let at = g.off + done * g.stride;
+    crate::restore::restore_y(p, at, g.w, rows, indices, filter, mask);
+    crate::rows::slide(indices, 8);
+    turned
+}
+
+// The rows of an advance that is not refused.
+pub fn advanced(
+    s: State,
+    count: usize,
+    p: &mut [u8],
+    left: &[u8],
+    top: &[u8],
+    bottom: &[u8],
+    filter: &[i8],
+    skip: &[u16],
+) -> Advanced
+    requires { ⌜ Admitted s (length (now p)) (length (now left)) (length (now top)) (length (now bottom)) (length (now filter)) (length (now skip)) ⌝ }
+    ensures { λ r. ⌜ Answered r (now (p .exit)) (answer (lumaCall count (lumaLent (now (left .entry)) (now (top .entry)) (now (bottom .entry)) (now (filter .entry)) (now (skip .entry)))) s (now (p .entry))) ⌝ }
+{
+    let g = s.numbers;
+    let start = s.done;
+    let n = least(count, g.h - start);
+    let f = filter_of(filter);
+    let pieces = pieces_of_rows(skip, g.w / 4, start, n);
+    let classes = s.classes;
+    let mut rows = s.rows;
+    let mut indices = s.indices;
+    let mut next = s.next;
+    let mut i = 0;
+    while i < n {
+        let mask = mask_of_row(skip, start + i);
+        next = row(
+            g,
+            start + i,
+            p,
+            left,
+            top,
+            bottom,
+            &f,
+            mask,
+            &mut rows,
+            &mut indices,
+            next,
+        );
+        i += 1;
+    }
+    Advanced {
+        status: 0,
+        pieces,
+        state: State {
+            op: s.op,
+            numbers: g,
+            done: start + n,
+            next,
+            classes,
+            indices,
+            rows,
+        },
+    }
+}
+
+fn no_numbers() -> Numbers
+    ensures { λ r. ⌜ r ≡ numbersY 0 0 0 0 0 0 0 ⌝ }
+{
+    numbers(0, 0, 0, 0, 0, 0, 0)
+}
+
+fn numbers(
+    w: usize,
+    h: usize,
+    edges: usize,
+    stride: usize,
+    off: usize,
+    top_off: usize,
+    bottom_off: usize,
+) -> Numbers
+    ensures { λ r. ⌜ r ≡ numbersY w h edges stride off «top_off» «bottom_off» ⌝ }
+{
+    Numbers {
+        w,
+        h,
+        edges,
+        stride,
+        luma_stride: 0,
+        off,
+        top_off,
+        bottom_off,
+        luma_off: 0,
+        luma_top_off: 0,
+        luma_bottom_off: 0,
+        ss_hor: 0,
+        ss_ver: 0,
+        kind: 0,
+    }
+}
+
+// The state of zeros.
+pub fn none() -> State
+    ensures { λ r. ⌜ r ≡ noState ⌝ }
+{
+    State {
+        op: 0,
+        numbers: no_numbers(),
+        done: 0,
+        next: 0,
+        classes: [0u8; 16],
+        indices: [0usize; 10],
+        rows: [0u8; 1080],
+    }
+}
+
+// The state of a unit that is not declined, before its first row.
+fn first_state(g: Numbers, p: &[u8], left: &[u8], top: &[u8], bottom: &[u8]) -> State
+    requires { ⌜ RowsLie luma (givenOf g) (length (now p)) (length (now left)) (length (now top)) (length (now bottom)) ⌝ }
+    ensures { λ r. ⌜ r ≡ openState g (rowsLent (now (left .entry)) (now (top .entry)) (now (bottom .entry))) (now (p .entry)) ⌝ }
+{
+    let rows = crate::rows::open_rows(1, g, p, left, top, bottom);
+    let indices = crate::rows::open_indices(1, g);
+    State {
+        op: 1,
+        numbers: g,
+        done: 0,
+        next: 8,
+        classes: [0u8; 16],
+        indices,
+        rows,
+    }
+}
+
+pub fn open(
+    p: &[u8],
+    p_off: usize,
+    stride: usize,
+    left: &[u8],
+    lpf: &[u8],
+    lpf_off: usize,
+    lpf_bottom: &[u8],
+    lpf_bottom_off: usize,
+    w: usize,
+    h: usize,
+    filter: &[i8],
+    edges: usize,
+    skip: &[u16],
+) -> Opened
+    ensures { λ r. ⌜ Begun r (numbersY w h edges stride «p_off» «lpf_off» «lpf_bottom_off») (lumaLent (now (left .entry)) (now (lpf .entry)) (now («lpf_bottom» .entry)) (now (filter .entry)) (now (skip .entry))) (now (p .entry)) ⌝ }
+{
+    let g = numbers(w, h, edges, stride, p_off, lpf_off, lpf_bottom_off);
+    let status = unit_status(
+        g,
+        p.len(),
+        left.len(),
+        lpf.len(),
+        lpf_bottom.len(),
+        filter.len(),
+        skip.len(),
+    );
+    if status != 0 {
+        return Opened {
+            status,
+            state: none(),
+        };
+    }
+    Opened {
+        status: 0,
+        state: first_state(g, p, left, lpf, lpf_bottom),
+    }
+}
