@@ -1,3 +1,5 @@
 pub mod Taps
 pub mod Statuses
 pub mod Writes
+pub mod Raising
+pub mod Gathering

@@ -2,9 +2,9 @@
 use mathlib.Core.Path.{_≡_, refl}
 use mathlib.Core.Bool.{Bool, true, false, _&&_}
 use mathlib.Core.List.{List}
-use Prim.Native.Nat.{ℕ, _+_, _*_, _≤_, _<_}
+use Prim.Native.Nat.{ℕ, _+_, _-_, _*_, _≤_, _<_}
 use native.Mathlib.Omega.{arith}
-use native.Mathlib.Nat.{mul-le-mul, le-refl, mul-comm}
+use native.Mathlib.Nat.{mul-le-mul, le-refl, mul-comm, add-mul}
 use lib.Dec.{leb}
 use lib.ListN.{length, getD}
 use borrow.Author.Tests.{leb-true}
@@ -13,6 +13,7 @@ use Rattle.definition.specs.Refusals.{indicesUpTo}
 use Rattle.laws.proofs.Passes.{both, pass-at}
 use Rattle.filter.specs.Runs.{runStatus, uvStatus, windowInside}
 use Rattle.filter.specs.Windows.{ownInside, Rows, Window}
+use Rattle.filter.specs.Shapes.{Gatherable}
 
 inside : (b : Bool) → outsideUnless b ≡ 0 → b ≡ true
 inside true e = refl
@@ -70,14 +71,16 @@ pub run-inside : (dst : ℕ) (rows indices : List ℕ) (col0 n : ℕ) → runSta
 unfolding runStatus
 run-inside dst rows indices col0 n e = own dst rows indices col0 n 760 9 4 (omega arith) (inside (ownInside dst (length rows) indices col0 n 760 9 4) e)
 
--- the chroma run has a window of luma too; a tap of luma reaches 2 chroma columns
+-- the chroma run gathers luma too: from two chroma columns before the first sample to two behind the last
 pub record UvInside (dst : ℕ) (rows indices : List ℕ) (col0 lcol0 step n : ℕ) : Type 0 where
   pub itself : OwnInside 2 dst rows indices col0 n
-  pub small : step ≤ 2
-  pub lumaWindows : (x : ℕ) → x < n → Window 380 140 (2 * step) rows indices (lcol0 + x * step)
+  pub behind : 2 * step ≤ lcol0
+  pub luma : Gatherable rows indices (lcol0 - 2 * step) step n
 
-luma-right : (lcol0 step n x : ℕ) → step ≤ 2 → x < n → lcol0 + step * n + 4 ≤ 140 → lcol0 + x * step + 2 * step < 140
-luma-right lcol0 step n x small h r = omega (arith, mul-le-mul h (le-refl step), mul-comm step n)
+column-inside : (lcol0 step n j : ℕ) → step ≤ 2 → 2 * step ≤ lcol0 → j < n + 4 → lcol0 + step * n + 4 ≤ 140 → lcol0 - 2 * step + j * step < 140
+column-inside lcol0 step n j small behind h r =
+    let far : j * step ≤ (n + 3) * step = mul-le-mul (omega arith) (le-refl step) in
+    omega (arith, add-mul n 3 step, mul-comm step n)
 
 pub uv-inside : (dst : ℕ) (rows indices : List ℕ) (col0 lcol0 step n : ℕ) → uvStatus dst (length rows) indices col0 lcol0 step n ≡ 0 → UvInside dst rows indices col0 lcol0 step n
 unfolding uvStatus
@@ -90,9 +93,14 @@ uv-inside dst rows indices col0 lcol0 step n e =
     let r = window-room 140 4 lcol0 (step * n) (p .1) in
     let long = own-long dst (length rows) indices col0 n 1080 4 2 (q .0) in
     let up = three dst (length rows) indices col0 n 1080 4 2 (q .0) .1 in
+    let o-window = own-window dst (length rows) indices col0 n 1080 4 2 (q .0) in
+    let behind : 2 * step ≤ lcol0 = omega (arith, r .0, small) in
     record {
       itself = own dst rows indices col0 n 1080 4 2 (omega arith) (q .0);
-      small = small;
-      lumaWindows = λ x h.
-          record { inside = rows-inside 380 140 4 rows indices (omega (arith, long)) up; left = omega (arith, r .0, small); right = luma-right lcol0 step n x small h (r .1) };
+      behind = behind;
+      luma = record {
+        inside = rows-inside 380 140 4 rows indices (omega (arith, long)) up;
+        columns = λ j h. column-inside lcol0 step n j small behind h (r .1);
+        short = omega (arith, o-window .0, o-window .1);
+      };
     }

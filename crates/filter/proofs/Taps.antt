@@ -26,7 +26,7 @@ module _ (reach : ℕ) (taps : List (List ℤ)) (e : T (near reach [])) (t : T (
   pub dy-is : toZ w8 (ofZ w8 (dyOf taps k)) ≡ dyOf taps k
   dy-is = toZ-ofZ (sfits-abs (omega (arith, near-at reach taps e t k .0)))
 
-  dx-is : toZ w8 (ofZ w8 (dxOf taps k)) ≡ dxOf taps k
+  pub dx-is : toZ w8 (ofZ w8 (dxOf taps k)) ≡ dxOf taps k
   dx-is = toZ-ofZ (sfits-abs (omega (arith, near-at reach taps e t k .1)))
 
   pub tap-spot : {mid : ℕ} {rows indices : List ℕ} {col : ℕ} → Window 0 76 reach rows indices col → reach ≤ mid → mid + reach < 10 →

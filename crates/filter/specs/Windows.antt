@@ -5,9 +5,9 @@ use mathlib.Core.List.{List}
 use lib.Dec.{leb}
 use mathlib.Core.Path.{_≡_}
 use lib.IntN.{ℤ, pos, negℤ, natAbs, _*ℤ_}
-use Rattle.definition.specs.Rows.{rowBytes, lumaFlat, chromaFlat, chromaLumaFlat}
+use Rattle.definition.specs.Rows.{rowBytes, lumaFlat, chromaFlat}
 use Rattle.definition.specs.Refusals.{indicesUpTo}
-use Rattle.definition.specs.Sample.{centre, nsTap, pcTap, lumaTap, nsConfigY, nsConfigUv}
+use Rattle.definition.specs.Sample.{centre, pairOf, nsTap, pcTap, nsConfigY, nsConfigUv, pcConfig}
 use Rattle.laws.proofs.Sums.{Partial}
 use Rattle.filter.specs.Runs.{coefficients, windowInside}
 use lib.ListN.{length, getD}
@@ -44,26 +44,30 @@ pub record Summed (asked : Type 0) (C : ℤ) (f : ℕ → ℤ) (B D k : ℕ) (s 
   pub window : asked
   pub sum : Partial C f B D k s
 
--- the sum of each filter after k of its taps
+-- the numbers of a raised set, as the definition takes a filter
+abbrev pub numbers : List ℕ → ℕ → ℤ
+numbers set k = pos (getD set k 0)
+
+-- what a pretrained filter multiplies, added up: the centre and the pairs of k taps
+abbrev pub PairsPartial : List ℕ → List ℕ → ℕ → ℕ → ℤ → Type 0
+PairsPartial rows indices col =
+    Summed (Window 0 76 4 rows indices col)
+    (pos (centre (lumaFlat rows indices col))) (λ k. pos (pairOf (lumaFlat rows indices col) pcConfig k)) 255 510
+
+-- the sum of a raised set after k taps
+abbrev pub PretrainedPartial : List ℕ → List ℕ → ℕ → List ℕ → ℕ → ℤ → Type 0
+PretrainedPartial rows indices col set =
+    Summed (Window 0 76 4 rows indices col)
+    (pos (centre (lumaFlat rows indices col)) *ℤ numbers set 12) (pcTap (lumaFlat rows indices col) (numbers set)) 33422850 33422850
+
+-- the sums of the other filters after k taps
 module _ (rows indices : List ℕ) (col : ℕ) (filter : List ℤ) where
   abbrev pub LumaPartial : ℕ → ℤ → Type 0
   LumaPartial =
       Summed (Window 0 76 4 rows indices col)
       (pos (128 * centre (lumaFlat rows indices col))) (nsTap (lumaFlat rows indices col) (coefficients filter) nsConfigY) 32640 130560
 
-  abbrev pub PretrainedPartial : ℕ → ℤ → Type 0
-  PretrainedPartial =
-      Summed (Window 0 76 4 rows indices col)
-      (pos (centre (lumaFlat rows indices col)) *ℤ coefficients filter 12) (pcTap (lumaFlat rows indices col) (coefficients filter)) 8355840 16711680
-
   abbrev pub ChromaPartial : ℕ → ℤ → Type 0
   ChromaPartial =
       Summed (Window 0 76 2 rows indices col)
       (pos (128 * centre (chromaFlat rows indices col))) (nsTap (chromaFlat rows indices col) (coefficients filter) nsConfigUv) 32640 130560
-
--- the taps of luma are added up by themselves
-module _ (rows indices : List ℕ) (lcol step : ℕ) (filter : List ℤ) where
-  abbrev pub FromLumaPartial : ℕ → ℤ → Type 0
-  FromLumaPartial =
-      Summed (Window 380 140 (2 * step) rows indices lcol × (step ≤ 2))
-      (pos 0) (lumaTap (chromaLumaFlat rows indices lcol) step (coefficients filter)) 0 65280

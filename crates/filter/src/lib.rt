@@ -2,13 +2,15 @@
 // Rows are one flat array of padded rows, reached by ten row indices. Small arrays are copied to locals before a loop, so that
 // a store to the destination cannot be taken to change them.
 ghost use mathlib.Core.Path.{_≡_};
-ghost use Prim.Native.Nat.{_+_, _*_, _^_, _<_, _≤_};
+ghost use Prim.Native.Nat.{ℕ, _+_, _*_, _^_, _<_, _≤_};
 ghost use lib.IntN.{pos, natAbs, _+ℤ_, _-ℤ_, _*ℤ_};
 ghost use lib.ListN.{length};
-ghost use Rattle.definition.specs.Rows.{flatAround, chromaFlat, chromaLumaFlat};
-ghost use Rattle.definition.specs.Sample.{limit8, rounded, centre, chromaSum};
+ghost use lib.Seq.{sets};
+ghost use Rattle.definition.specs.Rows.{tab, flatAround, lumaFlat, chromaFlat};
+ghost use Rattle.definition.specs.Sample.{limit8, rounded, centre};
 ghost use Rattle.filter.specs.Runs.{runStatus, uvStatus, lumaRun, pretrainedRun, chromaRun, coefficients};
-ghost use Rattle.filter.specs.Windows.{ownInside, Rows, Window, Spot, PairAt, LumaPartial, PretrainedPartial, ChromaPartial, FromLumaPartial};
+ghost use Rattle.filter.specs.Windows.{ownInside, Rows, Window, Spot, PairAt, LumaPartial, PretrainedPartial, PairsPartial, ChromaPartial};
+ghost use Rattle.filter.specs.Shapes.{Raised, loweredSum, every, Gatherable, Gathered, compactAt, compactSum, FromLumaPartial};
 use tables::PC_WIENER_CONFIG;
 use tables::WIENER_NS_CONFIG_UV;
 use tables::WIENER_NS_CONFIG_UV_FROM_Y;
@@ -120,9 +122,9 @@ fn ns_tap(s: i32, p: u32, m: u8, c: i8) -> i32
 }
 
 // s + p c
-fn pc_tap(s: i32, p: u32, c: i16) -> i32
+fn pc_tap(s: i32, p: u32, c: u16) -> i32
     requires { ⌜ (natAbs s < 2 ^ 30) × (p ≤ 510) ⌝ }
-    ensures { λ r. ⌜ (r ≡ s +ℤ pos p *ℤ c) × (natAbs r ≤ natAbs s + 16711680) ⌝ }
+    ensures { λ r. ⌜ (r ≡ s +ℤ pos p *ℤ pos c) × (natAbs r ≤ natAbs s + 33422850) ⌝ }
 {
     s + p as i32 * c as i32
 }
@@ -213,49 +215,94 @@ pub fn ns_wiener_fir_run(
     0
 }
 
-// The centre times the last number of a pretrained set.
-fn pc_start(rows: &[u8], indices: &[usize; 10], col: usize, filter: &[i16; 13]) -> i32
-    requires { ⌜ Window 0 76 4 (now rows) (now indices) col ⌝ }
-    ensures { λ r. ⌜ PretrainedPartial (now (rows .entry)) (now (indices .entry)) col (now (filter .entry)) 0 r ⌝ }
+// A pretrained set, each number raised by 32768 so that none is negative: then the compiler multiplies 16 by 16 bits. What is
+// too much is taken off the sum, 32768 times the samples that were multiplied.
+fn raised(filter: &[i16; 13]) -> [u16; 13]
+    ensures { λ r. ⌜ Raised (now (filter .entry)) 13 r ⌝ }
 {
-    byte_at(rows, indices, 0, ROW_BYTES, 4, col, 0, 0) as i32 * filter[12] as i32
+    let mut set = [0u16; 13];
+    let mut k = 0;
+    while k < 13 {
+        set[k] = (filter[k] as i32 + 32768) as u16;
+        k += 1;
+    }
+    set
 }
 
-// One tap more of a pretrained filter.
-fn pc_step(
-    s: i32,
-    rows: &[u8],
-    indices: &[usize; 10],
-    col: usize,
-    filter: &[i16; 13],
-    k: usize,
-) -> i32
+// The centre times the last number of a raised set.
+fn pc_start(rows: &[u8], indices: &[usize; 10], col: usize, set: &[u16; 13]) -> i32
+    requires { ⌜ Window 0 76 4 (now rows) (now indices) col ⌝ }
+    ensures { λ r. ⌜ PretrainedPartial (now (rows .entry)) (now (indices .entry)) col (now (set .entry)) 0 r ⌝ }
+{
+    let m = byte_at(rows, indices, 0, ROW_BYTES, 4, col, 0, 0);
+    pc_tap(0, m as u32, set[12])
+}
+
+// One tap more of a raised set.
+fn pc_step(s: i32, rows: &[u8], indices: &[usize; 10], col: usize, set: &[u16; 13], k: usize) -> i32
     requires { ⌜ k < 12 ⌝ }
-    requires { ⌜ PretrainedPartial (now rows) (now indices) col (now filter) k s ⌝ }
-    ensures { λ r. ⌜ PretrainedPartial (now (rows .entry)) (now (indices .entry)) col (now (filter .entry)) (k + 1) r ⌝ }
+    requires { ⌜ PretrainedPartial (now rows) (now indices) col (now set) k s ⌝ }
+    ensures { λ r. ⌜ PretrainedPartial (now (rows .entry)) (now (indices .entry)) col (now (set .entry)) (k + 1) r ⌝ }
 {
     let t = PC_WIENER_CONFIG[k];
     let p = pair_at(rows, indices, 4, col, t[0], t[1]);
-    pc_tap(s, p, filter[k])
+    pc_tap(s, p, set[k])
 }
 
-fn pc_sum(rows: &[u8], indices: &[usize; 10], col: usize, filter: &[i16; 13]) -> i32
+fn pc_sum(rows: &[u8], indices: &[usize; 10], col: usize, set: &[u16; 13]) -> i32
     requires { ⌜ Window 0 76 4 (now rows) (now indices) col ⌝ }
-    ensures { λ r. ⌜ PretrainedPartial (now (rows .entry)) (now (indices .entry)) col (now (filter .entry)) 12 r ⌝ }
+    ensures { λ r. ⌜ PretrainedPartial (now (rows .entry)) (now (indices .entry)) col (now (set .entry)) 12 r ⌝ }
 {
-    let s0 = pc_start(rows, indices, col, filter);
-    let s1 = pc_step(s0, rows, indices, col, filter, 0);
-    let s2 = pc_step(s1, rows, indices, col, filter, 1);
-    let s3 = pc_step(s2, rows, indices, col, filter, 2);
-    let s4 = pc_step(s3, rows, indices, col, filter, 3);
-    let s5 = pc_step(s4, rows, indices, col, filter, 4);
-    let s6 = pc_step(s5, rows, indices, col, filter, 5);
-    let s7 = pc_step(s6, rows, indices, col, filter, 6);
-    let s8 = pc_step(s7, rows, indices, col, filter, 7);
-    let s9 = pc_step(s8, rows, indices, col, filter, 8);
-    let s10 = pc_step(s9, rows, indices, col, filter, 9);
-    let s11 = pc_step(s10, rows, indices, col, filter, 10);
-    pc_step(s11, rows, indices, col, filter, 11)
+    let s0 = pc_start(rows, indices, col, set);
+    let s1 = pc_step(s0, rows, indices, col, set, 0);
+    let s2 = pc_step(s1, rows, indices, col, set, 1);
+    let s3 = pc_step(s2, rows, indices, col, set, 2);
+    let s4 = pc_step(s3, rows, indices, col, set, 3);
+    let s5 = pc_step(s4, rows, indices, col, set, 4);
+    let s6 = pc_step(s5, rows, indices, col, set, 5);
+    let s7 = pc_step(s6, rows, indices, col, set, 6);
+    let s8 = pc_step(s7, rows, indices, col, set, 7);
+    let s9 = pc_step(s8, rows, indices, col, set, 8);
+    let s10 = pc_step(s9, rows, indices, col, set, 9);
+    let s11 = pc_step(s10, rows, indices, col, set, 10);
+    pc_step(s11, rows, indices, col, set, 11)
+}
+
+// The samples that a pretrained filter multiplies, added up: the two of one tap more.
+fn pairs_step(s: i32, rows: &[u8], indices: &[usize; 10], col: usize, k: usize) -> i32
+    requires { ⌜ k < 12 ⌝ }
+    requires { ⌜ PairsPartial (now rows) (now indices) col k s ⌝ }
+    ensures { λ r. ⌜ PairsPartial (now (rows .entry)) (now (indices .entry)) col (k + 1) r ⌝ }
+{
+    let t = PC_WIENER_CONFIG[k];
+    s + pair_at(rows, indices, 4, col, t[0], t[1]) as i32
+}
+
+fn pairs_sum(rows: &[u8], indices: &[usize; 10], col: usize) -> i32
+    requires { ⌜ Window 0 76 4 (now rows) (now indices) col ⌝ }
+    ensures { λ r. ⌜ PairsPartial (now (rows .entry)) (now (indices .entry)) col 12 r ⌝ }
+{
+    let s0 = byte_at(rows, indices, 0, ROW_BYTES, 4, col, 0, 0) as i32;
+    let s1 = pairs_step(s0, rows, indices, col, 0);
+    let s2 = pairs_step(s1, rows, indices, col, 1);
+    let s3 = pairs_step(s2, rows, indices, col, 2);
+    let s4 = pairs_step(s3, rows, indices, col, 3);
+    let s5 = pairs_step(s4, rows, indices, col, 4);
+    let s6 = pairs_step(s5, rows, indices, col, 5);
+    let s7 = pairs_step(s6, rows, indices, col, 6);
+    let s8 = pairs_step(s7, rows, indices, col, 7);
+    let s9 = pairs_step(s8, rows, indices, col, 8);
+    let s10 = pairs_step(s9, rows, indices, col, 9);
+    let s11 = pairs_step(s10, rows, indices, col, 10);
+    pairs_step(s11, rows, indices, col, 11)
+}
+
+// The sum that one sample of a pretrained filter rounds, by its raised set.
+fn lowered_sum(rows: &[u8], indices: &[usize; 10], col: usize, set: &[u16; 13]) -> i32
+    requires { ⌜ Window 0 76 4 (now rows) (now indices) col ⌝ }
+    ensures { λ r. ⌜ (r ≡ loweredSum (lumaFlat (now (rows .entry)) (now (indices .entry)) col) (now (set .entry))) × (natAbs r < 2 ^ 30) ⌝ }
+{
+    pc_sum(rows, indices, col, set) - 32768 * pairs_sum(rows, indices, col)
 }
 
 // The n samples from byte col0 on, restored by a pretrained set.
@@ -275,10 +322,10 @@ pub fn pc_wiener_fir_run(
         return status;
     }
     let ix = *indices;
-    let f = *filter;
+    let set = raised(filter);
     let mut x = 0;
     while x < n {
-        dst[x] = round_clip(pc_sum(rows, &ix, col0 + x, &f));
+        dst[x] = round_clip(lowered_sum(rows, &ix, col0 + x, &set));
         x += 1;
     }
     0
@@ -317,68 +364,89 @@ fn uv_own_sum(rows: &[u8], indices: &[usize; 10], col: usize, filter: &[i8; 18])
     uv_step(s5, rows, indices, col, filter, 5)
 }
 
+// One of the five rows of luma, at chroma's resolution: every `step`-th byte from `from` on, n of them, to byte `to` on.
+fn gather_row(compact: &mut [u8; 380], to: usize, rows: &[u8], from: usize, step: usize, n: usize)
+    requires { ⌜ to + n ≤ 380 ⌝ }
+    requires { ⌜ ((j : ℕ) → j < n → from + j * step < length (now rows)) ⌝ }
+    ensures { λ _. ⌜ now (compact .exit) ≡ sets (now (compact .entry)) to (tab n (every (now (rows .entry)) from step)) ⌝ }
+{
+    let mut j = 0;
+    while j < n {
+        compact[to + j] = rows[from + j * step];
+        j += 1;
+    }
+}
+
+// The five rows of luma that n chroma samples read, from column `first` on. So the taps of luma have steps of one byte, which the
+// compiler can take side by side.
+fn gather(rows: &[u8], indices: &[usize; 10], first: usize, step: usize, n: usize) -> [u8; 380]
+    requires { ⌜ Gatherable (now rows) (now indices) first step n ⌝ }
+    ensures { λ r. ⌜ Gathered (now (rows .entry)) (now (indices .entry)) first step n 5 r ⌝ }
+{
+    let mut compact = [0u8; 380];
+    let mut k = 0;
+    while k < 5 {
+        let row = indices[5 + k];
+        let from = LUMA_ROWS_AT + LUMA_ROW_BYTES * row + first;
+        gather_row(&mut compact, ROW_BYTES * k, rows, from, step, n + 4);
+        k += 1;
+    }
+    compact
+}
+
+// The byte dy rows and dx columns from the luma of sample x.
+fn compact_at(compact: &[u8; 380], x: usize, dy: i8, dx: i8) -> u8
+    requires { ⌜ (x < 72) × (natAbs dy ≤ 2) × (natAbs dx ≤ 2) ⌝ }
+    ensures { λ r. ⌜ r ≡ compactAt (now (compact .entry)) x dy dx ⌝ }
+{
+    let row = moved(2, dy);
+    compact[ROW_BYTES * row + moved(x + 2, dx)]
+}
+
 // One tap more of its twelve of luma.
-fn uv_luma_step(
-    s: i32,
-    rows: &[u8],
-    indices: &[usize; 10],
-    lcol: usize,
-    step: u8,
-    filter: &[i8; 18],
-    k: usize,
-) -> i32
+fn uv_luma_step(s: i32, compact: &[u8; 380], x: usize, filter: &[i8; 18], k: usize) -> i32
     requires { ⌜ k < 12 ⌝ }
-    requires { ⌜ FromLumaPartial (now rows) (now indices) lcol step (now filter) k s ⌝ }
-    ensures { λ r. ⌜ FromLumaPartial (now (rows .entry)) (now (indices .entry)) lcol step (now (filter .entry)) (k + 1) r ⌝ }
+    requires { ⌜ FromLumaPartial (now compact) x (now filter) k s ⌝ }
+    ensures { λ r. ⌜ FromLumaPartial (now (compact .entry)) x (now (filter .entry)) (k + 1) r ⌝ }
 {
     let t = WIENER_NS_CONFIG_UV_FROM_Y[k];
-    let dx = step as i8 * t[1];
-    let v = byte_at(
-        rows,
-        indices,
-        LUMA_ROWS_AT,
-        LUMA_ROW_BYTES,
-        7,
-        lcol,
-        t[0],
-        dx,
-    );
-    let m = byte_at(rows, indices, LUMA_ROWS_AT, LUMA_ROW_BYTES, 7, lcol, 0, 0);
+    let v = compact_at(compact, x, t[0], t[1]);
+    let m = compact_at(compact, x, 0, 0);
     let at = 6 + k;
     luma_tap(s, v, m, filter[at])
 }
 
-fn uv_luma_sum(rows: &[u8], indices: &[usize; 10], lcol: usize, step: u8, filter: &[i8; 18]) -> i32
-    requires { ⌜ Window 380 140 (2 * step) (now rows) (now indices) lcol × (step ≤ 2) ⌝ }
-    ensures { λ r. ⌜ FromLumaPartial (now (rows .entry)) (now (indices .entry)) lcol step (now (filter .entry)) 12 r ⌝ }
+fn uv_luma_sum(compact: &[u8; 380], x: usize, filter: &[i8; 18]) -> i32
+    requires { ⌜ x < 72 ⌝ }
+    ensures { λ r. ⌜ FromLumaPartial (now (compact .entry)) x (now (filter .entry)) 12 r ⌝ }
 {
-    let s1 = uv_luma_step(0, rows, indices, lcol, step, filter, 0);
-    let s2 = uv_luma_step(s1, rows, indices, lcol, step, filter, 1);
-    let s3 = uv_luma_step(s2, rows, indices, lcol, step, filter, 2);
-    let s4 = uv_luma_step(s3, rows, indices, lcol, step, filter, 3);
-    let s5 = uv_luma_step(s4, rows, indices, lcol, step, filter, 4);
-    let s6 = uv_luma_step(s5, rows, indices, lcol, step, filter, 5);
-    let s7 = uv_luma_step(s6, rows, indices, lcol, step, filter, 6);
-    let s8 = uv_luma_step(s7, rows, indices, lcol, step, filter, 7);
-    let s9 = uv_luma_step(s8, rows, indices, lcol, step, filter, 8);
-    let s10 = uv_luma_step(s9, rows, indices, lcol, step, filter, 9);
-    let s11 = uv_luma_step(s10, rows, indices, lcol, step, filter, 10);
-    uv_luma_step(s11, rows, indices, lcol, step, filter, 11)
+    let s1 = uv_luma_step(0, compact, x, filter, 0);
+    let s2 = uv_luma_step(s1, compact, x, filter, 1);
+    let s3 = uv_luma_step(s2, compact, x, filter, 2);
+    let s4 = uv_luma_step(s3, compact, x, filter, 3);
+    let s5 = uv_luma_step(s4, compact, x, filter, 4);
+    let s6 = uv_luma_step(s5, compact, x, filter, 5);
+    let s7 = uv_luma_step(s6, compact, x, filter, 6);
+    let s8 = uv_luma_step(s7, compact, x, filter, 7);
+    let s9 = uv_luma_step(s8, compact, x, filter, 8);
+    let s10 = uv_luma_step(s9, compact, x, filter, 9);
+    let s11 = uv_luma_step(s10, compact, x, filter, 10);
+    uv_luma_step(s11, compact, x, filter, 11)
 }
 
 fn uv_sum(
     rows: &[u8],
     indices: &[usize; 10],
     col: usize,
-    lcol: usize,
-    step: u8,
+    compact: &[u8; 380],
+    x: usize,
     filter: &[i8; 18],
 ) -> i32
     requires { ⌜ Window 0 76 2 (now rows) (now indices) col ⌝ }
-    requires { ⌜ Window 380 140 (2 * step) (now rows) (now indices) lcol × (step ≤ 2) ⌝ }
-    ensures { λ r. ⌜ (r ≡ chromaSum (chromaFlat (now (rows .entry)) (now (indices .entry)) col) (chromaLumaFlat (now (rows .entry)) (now (indices .entry)) lcol) step (coefficients (now (filter .entry)))) × (natAbs r < 2 ^ 30) ⌝ }
+    requires { ⌜ x < 72 ⌝ }
+    ensures { λ r. ⌜ (r ≡ compactSum (chromaFlat (now (rows .entry)) (now (indices .entry)) col) (compactAt (now (compact .entry)) x) (coefficients (now (filter .entry)))) × (natAbs r < 2 ^ 30) ⌝ }
 {
-    uv_own_sum(rows, indices, col, filter) + uv_luma_sum(rows, indices, lcol, step, filter)
+    uv_own_sum(rows, indices, col, filter) + uv_luma_sum(compact, x, filter)
 }
 
 fn uv_status(
@@ -427,10 +495,10 @@ pub fn ns_wiener_uv_fir_run(
     }
     let ix = *indices;
     let f = *filter;
-    let luma_step = step as u8;
+    let compact = gather(rows, &ix, lcol0 - 2 * step, step, n);
     let mut x = 0;
     while x < n {
-        dst[x] = round_clip(uv_sum(rows, &ix, col0 + x, lcol0 + x * step, luma_step, &f));
+        dst[x] = round_clip(uv_sum(rows, &ix, col0 + x, &compact, x, &f));
         x += 1;
     }
     0

@@ -4,9 +4,8 @@ use native.Mathlib.Omega.{arith}
 use Prim.Native.Nat.{_+_, _<_}
 use lib.Dec.{lit<}
 use lib.IntN.{natAbs, pos, _*ℤ_}
-use mir.Syntax.{w16, w32}
-use mir.Val.{ofZ}
-use Rattle.laws.proofs.Held.{Held, mulB, castB, natural, kept, typed, cast, cast-fits, plus, plus-fits, times, times-fits}
+use mir.Syntax.{w32}
+use Rattle.laws.proofs.Held.{Held, mulB, natural, kept, plus, plus-fits, times, times-fits}
 use Rattle.filter.proofs.pc_tap.Statement.{statement}
 use Rattle.filter.proofs.pc_tap.Tie as tie
 
@@ -14,20 +13,20 @@ module _ (c : tie.Start) where
   p : Held w32 (c .args .p) (pos (c .args .p)) 510
   p = natural (omega arith) (lit< tt)
 
-  by : Held w32 (castB w16 w32 (ofZ w16 (c .args .c))) (c .args .c) 32768
-  by = cast w32 (typed (c .fits .c)) (lit< tt)
+  by : Held w32 (c .args .c) (pos (c .args .c)) 65535
+  by = natural (omega arith) (lit< tt)
 
-  prod : Held w32 (mulB w32 (c .args .p) (castB w16 w32 (ofZ w16 (c .args .c)))) (pos (c .args .p) *ℤ c .args .c) 16711680
+  prod : Held w32 (mulB w32 (c .args .p) (c .args .c)) (pos (c .args .p) *ℤ pos (c .args .c)) 33422850
   prod = times p by (lit< tt)
 
-  room : natAbs (c .args .s) + 16711680 < 2147483648
+  room : natAbs (c .args .s) + 33422850 < 2147483648
   room = omega (arith, c .pre)
 
 cast-result : tie.Need-cast-result
 cast-result c = search needs
 
 cast-result-2 : tie.Need-cast-result-2
-cast-result-2 c = cast-fits w32 (typed (c .fits .c)) (lit< tt)
+cast-result-2 c = search needs
 
 mul-result : tie.Need-mul-result
 mul-result c = times-fits (p c) (by c) (lit< tt)

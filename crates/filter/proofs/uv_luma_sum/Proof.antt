@@ -7,7 +7,7 @@ use Rattle.filter.proofs.uv_luma_sum.Statement.{statement}
 use Rattle.filter.proofs.uv_luma_sum.Tie as tie
 
 uv-luma-step-requires : tie.Need-uv-luma-step-requires
-uv-luma-step-requires c κs = (lit< tt, record { window = c .before .pre; sum = begun refl (lit≤ tt) })
+uv-luma-step-requires c κs = (lit< tt, record { window = c .pre; sum = begun refl (lit≤ tt) })
 
 uv-luma-step-requires-2 : tie.Need-uv-luma-step-requires-2
 uv-luma-step-requires-2 c κs = (lit< tt, onward (c .uv-luma-step .ok) (c .uv-luma-step .ensures))

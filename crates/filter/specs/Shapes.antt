@@ -1,0 +1,48 @@
+-- The two runs that are not written as the definition reads: a pretrained set that is raised, and luma that is gathered at chroma's resolution.
+use Prim.Native.Nat.{ℕ, _+_, _*_, _≤_, _<_}
+use mathlib.Core.List.{List}
+use mathlib.Core.Path.{_≡_}
+use lib.IntN.{ℤ, pos, natAbs, _+ℤ_, _-ℤ_, _*ℤ_}
+use lib.ListN.{getD}
+use Rattle.definition.specs.Numbers.{sumZ}
+use Rattle.definition.specs.Rows.{rowBytes, lumaRowBytes, lumaRowsAt}
+use Rattle.definition.specs.Sample.{dyOf, dxOf, centre, pairOf, nsTap, pretrainedSum, nsConfigUv, nsConfigUvFromY, pcConfig}
+use Rattle.filter.specs.Runs.{coefficients}
+use Rattle.filter.specs.Windows.{Rows, Summed, numbers}
+
+-- the first n numbers of a filter, each 32768 more
+pub record Raised (filter : List ℤ) (n : ℕ) (set : List ℕ) : Type 0 where
+  pub is : (k : ℕ) → k < n → pos (getD set k 0) ≡ getD filter k (pos 0) +ℤ pos 32768
+
+-- the sum of a raised set, less 32768 times what it multiplies
+abbrev pub loweredSum : (ℤ → ℤ → ℕ) → List ℕ → ℤ
+loweredSum s set = pretrainedSum s (numbers set) -ℤ pos 32768 *ℤ (pos (centre s) +ℤ sumZ 12 (λ k. pos (pairOf s pcConfig k)))
+
+-- every `step`-th byte from `from` on
+abbrev pub every : List ℕ → ℕ → ℕ → ℕ → ℕ
+every rows from step j = getD rows (from + j * step) 0
+
+-- n + 4 bytes of each row of luma, every `step`-th from column `first` on, lie in the row
+pub record Gatherable (rows indices : List ℕ) (first step n : ℕ) : Type 0 where
+  pub inside : Rows lumaRowsAt lumaRowBytes rows indices
+  pub columns : (j : ℕ) → j < n + 4 → first + j * step < lumaRowBytes
+  pub short : n + 4 ≤ rowBytes
+
+-- the first m of the five rows so gathered
+pub record Gathered (rows indices : List ℕ) (first step n m : ℕ) (compact : List ℕ) : Type 0 where
+  pub is : (k j : ℕ) → k < m → j < n + 4 → getD compact (rowBytes * k + j) 0 ≡ every rows (lumaRowsAt + lumaRowBytes * getD indices (5 + k) 0 + first) step j
+
+-- the luma of sample x, dy rows and dx columns away: its own is the byte x + 2 of the third row
+abbrev pub compactAt : List ℕ → ℕ → ℤ → ℤ → ℕ
+compactAt compact x dy dx = getD compact (rowBytes * natAbs (pos 2 +ℤ dy) + natAbs (pos (x + 2) +ℤ dx)) 0
+
+-- `lumaTap` and `chromaSum` of luma that is gathered
+abbrev pub compactTap : (ℤ → ℤ → ℕ) → (ℕ → ℤ) → ℕ → ℤ
+compactTap l c k = (pos (l (dyOf nsConfigUvFromY k) (dxOf nsConfigUvFromY k)) -ℤ pos (centre l)) *ℤ c (6 + k)
+
+abbrev pub compactSum : (ℤ → ℤ → ℕ) → (ℤ → ℤ → ℕ) → (ℕ → ℤ) → ℤ
+compactSum s l c = pos (128 * centre s) +ℤ sumZ 6 (nsTap s c nsConfigUv) +ℤ sumZ 12 (compactTap l c)
+
+-- the taps of luma are added up by themselves
+abbrev pub FromLumaPartial : List ℕ → ℕ → List ℤ → ℕ → ℤ → Type 0
+FromLumaPartial compact x filter = Summed (x < 72) (pos 0) (compactTap (compactAt compact x) (coefficients filter)) 0 65280
