@@ -76,7 +76,7 @@ chroma-agree limit step s t l m c d a b z e =
 abbrev pub viewAround : ℕ → List (List ℕ) → ℕ → ℤ → ℤ → ℕ
 viewAround mid rows col dy dx = getD (getD rows (natAbs (pos mid +ℤ dy)) []) (natAbs (pos col +ℤ dx)) 0
 
-getD-tabs : (n : ℕ) (f : ℕ → List ℕ) (i : ℕ) → i < n → getD (tab n f) i [] ≡ f i
+pub getD-tabs : (n : ℕ) (f : ℕ → List ℕ) (i : ℕ) → i < n → getD (tab n f) i [] ≡ f i
 getD-tabs zero f i h = absurd (not-suc-le-zero h)
 getD-tabs (suc n) f zero h = refl
 getD-tabs (suc n) f (suc i) h = getD-tabs n (λ j. f (suc j)) i (le-of-suc-le-suc h)
@@ -99,12 +99,12 @@ flat-view first len mid n col rows idx dy dx h k =
     (getD-drop (s * len) (drop first rows) c 0 ∙ (getD-drop first rows (s * len + c) 0 ∙ ap (λ (z : ℕ). getD rows z 0) d))))
 
 -- a number and what a tap that leads to no place before 0 leads to
-back : (y e : ℕ) (d : ℤ) → T (nonNeg (pos e +ℤ d)) → pos (y + natAbs (pos e +ℤ d)) -ℤ pos e ≡ pos y +ℤ d
+pub back : (y e : ℕ) (d : ℤ) → T (nonNeg (pos e +ℤ d)) → pos (y + natAbs (pos e +ℤ d)) -ℤ pos e ≡ pos y +ℤ d
 back y e d h =
     let n : pos (natAbs (pos e +ℤ d)) ≡ d +ℤ pos e = pos-natAbs (pos e +ℤ d) h ∙ +ℤ-comm (pos e) d in
     ap (λ (z : ℤ). pos y +ℤ z -ℤ pos e) n ∙ (ap (λ (z : ℤ). z -ℤ pos e) (sym (+ℤ-assoc (pos y) d (pos e))) ∙ +ℤ-negℤ-cancel (pos y +ℤ d) (pos e))
 
-place-split : (a x e : ℕ) (d : ℤ) → T (nonNeg (pos e +ℤ d)) → e ≤ a → natAbs (pos (a + x) +ℤ d) ≡ a - e + (x + natAbs (pos e +ℤ d))
+pub place-split : (a x e : ℕ) (d : ℤ) → T (nonNeg (pos e +ℤ d)) → e ≤ a → natAbs (pos (a + x) +ℤ d) ≡ a - e + (x + natAbs (pos e +ℤ d))
 place-split a x e d h k =
     let m : a + x ≡ a - e + x + e = omega arith in
     let n : pos (a + x) +ℤ d ≡ pos (a - e + x + natAbs (pos e +ℤ d)) =

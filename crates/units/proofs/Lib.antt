@@ -11,3 +11,11 @@ pub mod Copies
 pub mod Pieces
 pub mod Shapes
 pub mod Turns
+pub mod Advances
+pub mod Classes
+pub mod Behind
+pub mod LumaSources
+pub mod ClassedTurns
+pub mod Shaped
+pub mod Both
+pub mod Chromas

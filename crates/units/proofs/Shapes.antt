@@ -45,7 +45,7 @@ unfolding statusBy
 well-shaped s z e = rw e
 
 -- WHAT A STATUS OF 0 SAYS
-not13 : (b : Bool) (n : ℕ) → cond b 13 n ≡ 0 → (b ≡ false) × (n ≡ 0)
+pub not13 : (b : Bool) (n : ℕ) → cond b 13 n ≡ 0 → (b ≡ false) × (n ≡ 0)
 not13 true n e = absurd (omega arith)
 not13 false n e = (refl, e)
 

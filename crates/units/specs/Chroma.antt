@@ -4,7 +4,8 @@ use mathlib.Core.Bool.{cond, _&&_}
 use mathlib.Core.List.{List, []}
 use Prim.Native.Nat.{ℕ, _+_, _*_, _-_, _^_, _≤_, _<_}
 use lib.Dec.{eqb}
-use lib.IntN.{pos}
+use lib.IntN.{ℤ, pos}
+use Rattle.units.specs.declared.Numbers.{Numbers}
 use Rattle.definition.specs.Padding.{hasLeft, hasRight, hasTop, topIntegrated, bottomIntegrated}
 use Rattle.definition.specs.Units.{Given, Lent}
 use Rattle.definition.specs.Refusals.{beside, bottomRows}
@@ -47,3 +48,41 @@ pub record LumaLie (g : Given) (plane top bottom : ℕ) : Type 0 where
       (beside (topIntegrated (g .edges)) (2 * 2 ^ g .ssVer) * g .lumaStride + beside (hasLeft (g .edges)) 4) (beside (hasRight (g .edges)) 4)
   pub topIn : 0 < lumaTopCount g → Inside top (g .lumaTopOff) (g .lumaStride) (lumaTopCount g) (g .w * 2 ^ g .ssHor) (0 * g .lumaStride + beside (hasLeft (g .edges)) 4) (beside (hasRight (g .edges)) 4)
   pub bottomIn : 0 < bottomRows (g .edges) → Inside bottom (g .lumaBottomOff) (g .lumaStride) (bottomRows (g .edges)) (g .w * 2 ^ g .ssHor) (0 * g .lumaStride + beside (hasLeft (g .edges)) 4) (beside (hasRight (g .edges)) 4)
+
+-- all that a call of a chroma unit is lent besides the plane
+abbrev pub chromaLent : List ℕ → List ℕ → List ℕ → List ℤ → List ℕ → List ℕ → List ℕ → List ℕ → Lent
+chromaLent left top bottom filter lumaPlane lumaTop lumaBottom skip =
+    record {
+      left = left;
+      top = top;
+      bottom = bottom;
+      lumaPlane = lumaPlane;
+      lumaTop = lumaTop;
+      lumaBottom = lumaBottom;
+      skip = skip;
+      noskip = [];
+      map = [];
+      subclass = [];
+      filters = filter;
+      q = pos 0;
+    }
+
+-- the numbers that a chroma unit is opened with
+abbrev pub numbersC : ℕ → ℕ → ℕ → ℕ → ℕ → ℕ → ℕ → ℕ → ℕ → ℕ → ℕ → ℕ → ℕ → ℕ → Numbers
+numbersC w h edges stride lumaStride off topOff bottomOff lumaOff lumaTopOff lumaBottomOff ssHor ssVer kind =
+    record {
+      w = w;
+      h = h;
+      edges = edges;
+      stride = stride;
+      «luma_stride» = lumaStride;
+      off = off;
+      «top_off» = topOff;
+      «bottom_off» = bottomOff;
+      «luma_off» = lumaOff;
+      «luma_top_off» = lumaTopOff;
+      «luma_bottom_off» = lumaBottomOff;
+      «ss_hor» = ssHor;
+      «ss_ver» = ssVer;
+      kind = kind;
+    }

@@ -35,3 +35,21 @@ module _ (op : Operation) (g : Given) (l : Lent) (plane : List ℕ) (done : ℕ)
 
   pub record TookClassed (new : Ring) : Type 0 where
     pub is : new ≡ cond (begins done) (withTenth (padRow op g l plane (done + 9)) newest) newest
+
+-- all that a call of a classed unit is lent besides the plane
+abbrev pub classedLent : List ℕ → List ℕ → List ℕ → List ℤ → List ℕ → List ℕ → List ℕ → List ℕ → ℤ → Lent
+classedLent left top bottom filters map subclass noskip skip q =
+    record {
+      left = left;
+      top = top;
+      bottom = bottom;
+      lumaPlane = [];
+      lumaTop = [];
+      lumaBottom = [];
+      skip = skip;
+      noskip = noskip;
+      map = map;
+      subclass = subclass;
+      filters = filters;
+      q = q;
+    }

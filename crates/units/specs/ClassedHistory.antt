@@ -9,21 +9,39 @@ use native.Mathlib.Nat.{mul-le-mul-right, zero-add}
 use native.Mathlib.Decide.{decLt}
 use native.Mathlib.Omega.{arith}
 use lib.Dec.{eqb, ltb, leb}
-use lib.IntN.{pos, negsuc, natAbs, _+ℤ_, _-ℤ_, +ℤ-assoc}
-use lib.ListN.{length, getD, set, replicate, length-replicate, getD-replicate, length-set}
+use lib.IntN.{ℤ, pos, negsuc, natAbs, _+ℤ_, _-ℤ_, +ℤ-assoc}
+use lib.ListN.{length, getD, set, replicate, length-replicate, getD-replicate, length-set, length-append, List·getD-eq-default}
 use lib.Seq.{sets, length-sets, ext-getD, getD-set-same, getD-set-other}
 use borrow.Author.Tests.{le-ltb, lt-ltb, le-leb, eq-eqb, ne-eqb, eqb-true, eqb-false, ltb-true}
 use Rattle.definition.specs.Rows.{tab, rowBytes, rowOrigin, lumaFlat}
-use Rattle.definition.specs.Blocks.{side}
+use Rattle.definition.specs.Blocks.{side, masked, maskAt, piecesOf}
 use Rattle.definition.specs.ClassIndex.{classIndex}
-use Rattle.definition.specs.Units.{Operation, user, pretrained, border, Given, Lent, around, classOf}
+use Rattle.definition.specs.Units.{Operation, user, pretrained, border, Given, Lent, around, classOf, setOf, setSize, finalSample}
 use Rattle.laws.proofs.Lists.{tab-cong, length-tab, getD-tab, sets-in, sets-behind}
 use Rattle.history.specs.Ring.{Ring, fetch, fetch-same, shift, window, wrap, rowOf, row-same, row-other, set-low, Rule, Holds, RingAt, fetched, shifted, window-held, slid, slid-length, slid-low}
 use Rattle.history.specs.Memory.{Memory, From}
-use Rattle.model.specs.Rows.{padRow, own, src, pad-same, pad-size}
-use Rattle.model.specs.Views.{Agree, viewAround, flat-view, row-view}
-use Rattle.model.specs.Classes.{class-same}
-use Rattle.units.specs.Operations.{begins, withTenth, classAt}
+use lib.Dec.{T}
+use lib.Signed.{nonNeg}
+use Rattle.laws.proofs.Ints.{sub-pos}
+use Rattle.model.specs.Rows.{padRow, own, src, pad-same, pad-size, ring-rule, firstRow}
+use Rattle.model.specs.Views.{Agree, luma-agree, pretrained-agree, viewAround, flat-view, row-view, pad-view, place-high}
+use Rattle.model.specs.Classes.{Eight, class-same}
+use Rattle.definition.specs.Refusals.{Sizes, sizesOf, every, badMapOf, badFilters, badKept, firstPass, indexLimit, nextLimit, indicesUpTo, planeRows, unitStatus}
+use Rattle.laws.proofs.Passes.{both, pass-all}
+use Rattle.model.specs.Fine.{Fine, fine, not-both, not-not}
+use Rattle.laws.proofs.Ints.{never}
+use Rattle.model.specs.Opening.{openRing, opens, filled, filled-size, openIndex}
+use Rattle.units.specs.Wholes.{frameOf, Histories}
+use Rattle.units.specs.Cells.{userCell, pretrainedCell}
+use Rattle.definition.specs.Sample.{limit8, lumaSample, pretrainedSample}
+use Rattle.history.specs.Theorem.{Given as Shown, theorem}
+use Rattle.units.specs.declared.Numbers.{Numbers}
+use Rattle.units.specs.declared.State.{State}
+use Rattle.units.specs.States.{givenOf}
+use Rattle.units.specs.Openings.{openRings, openTen, openState, openStatus}
+use Rattle.units.specs.Operations.{numberOf, begins, withTenth, classAt, stepOf, classedState, userPlane, pretrainedPlane, painted, tookClassed, classesNow, took, Call, units, statusOf, badState}
+use Rattle.units.specs.Advances.{callOf}
+use Rattle.units.specs.LumaHistory.{slot, wraps}
 
 -- the tenth row disturbs no row of the window
 module _ (len top h : ℕ) (slot src : ℕ → ℕ) (own : ℕ → Bool) (pad : ℕ → List ℕ) (low : (a : ℕ) → slot a ≤ 8) (tops : 9 ≤ top) where
@@ -80,3 +98,434 @@ module _ (op : Operation) (four : border op ≡ 4) (G : Given) (l : Lent) (p₀ 
     pub size : length c ≡ 16
     pub rest : (j : ℕ) → bw ≤ j → getD c j 0 ≡ 0
     pub low : (j : ℕ) → getD c j 0 < n
+
+-- what is stored at a place
+stored-at : (c : List ℕ) (bw : ℕ) (f : ℕ → ℕ) (j : ℕ) → j < bw → j < length c → getD (sets c 0 (tab bw f)) j 0 ≡ f j
+stored-at c bw f j h k =
+    ap (λ (i : ℕ). getD (sets c 0 (tab bw f)) i 0) (sym (zero-add j)) ∙
+    (sets-in (tab bw f) c 0 j (rw (length-tab bw f) h) (rw (zero-add j) k) ∙ getD-tab bw f j h)
+
+-- stored over by numbers below n it stays below n
+stored-low : (c : List ℕ) (bw : ℕ) (f : ℕ → ℕ) (n : ℕ) → ((j : ℕ) → getD c j 0 < n) → ((j : ℕ) → f j < n) → (j : ℕ) → getD (sets c 0 (tab bw f)) j 0 < n
+stored-low c bw f n h k j =
+    elim (decLt j bw) [
+      | no ge ↦ rw (sets-behind (tab bw f) c 0 j (rw (length-tab bw f, zero-add bw) (omega arith))) (h j)
+      | yes lt ↦
+          elim (decLt j (length c)) [
+            | yes l ↦ rw (stored-at c bw f j lt l) (k j)
+            | no g ↦
+                let e : getD (sets c 0 (tab bw f)) j 0 ≡ 0 = List·getD-eq-default (sets c 0 (tab bw f)) 0 (rw (length-sets c 0 (tab bw f)) (omega arith)) in
+                rw e (omega (arith, h j))
+          ]
+    ]
+
+fetch-next : (b : Bool) (row : List ℕ) (g : Ring) → fetch rowBytes 8 b row g .next ≡ wrap 9 (g .next)
+fetch-next true row g = refl
+fetch-next false row g = refl
+
+fetch-sizes : (b : Bool) (row : List ℕ) (g : Ring) → (length (fetch rowBytes 8 b row g .slots) ≡ length (g .slots)) × (length (fetch rowBytes 8 b row g .idx) ≡ length (g .idx))
+fetch-sizes true row g = (length-sets (g .slots) (g .next * rowBytes) row, length-set (g .idx) 8 (g .next))
+fetch-sizes false row g = (refl, length-set (g .idx) 8 (getD (g .idx) 7 0))
+
+-- eight rows and columns from two before a block's first sample on, by the place that a tap of -2 .. 5 leads to
+eight-place : (e a : ℕ) → 2 ≤ e → (T (nonNeg (pos e +ℤ (pos a -ℤ pos 2)))) × (natAbs (pos e +ℤ (pos a -ℤ pos 2)) ≡ e + a - 2)
+eight-place e a h =
+    let d : pos e +ℤ (pos a -ℤ pos 2) ≡ pos (e + a - 2) = sym (+ℤ-assoc (pos e) (pos a) (negsuc 1)) ∙ sub-pos (e + a) 2 (omega arith) in
+    rw d (tt, refl)
+
+-- WHAT A CLASSED UNIT REMEMBERS, of h rows that start `start k` into the plane
+module _ (op : Operation) (four : border op ≡ 4) (G : Given) (l : Lent) (p₀ : List ℕ) (bw n : ℕ) (slot : ℕ → ℕ) (low : (a : ℕ) → slot a ≤ 8)
+    (rule : Rule rowBytes 8 9 (G .h) slot (src op G) (own op G) (padRow op G l p₀)) (wide : G .w ≤ 64) (blocks : bw * 4 ≤ G .w) (apart : border op ≤ G .stride)
+    (few : (r : Ring) (y bx : ℕ) → classAt G l r y bx < n) (some : 0 < n) where
+  abbrev pub start : ℕ → ℕ
+  start k = G .off + k * G .stride
+
+  abbrev pub newest : ℕ → List ℕ → Ring → Ring
+  newest k p g = fetch rowBytes 8 (own op G (k + 8)) (padRow op G l p (k + 8)) g
+
+  abbrev pub ten : ℕ → List ℕ → Ring → Ring
+  ten k p g = cond (begins k) (withTenth (padRow op G l p (k + 9)) (newest k p g)) (newest k p g)
+
+  abbrev pub chosen : ℕ → Ring → List ℕ → List ℕ
+  chosen k g c = cond (begins k) (sets c 0 (tab bw (classAt G l g k))) c
+
+  pub record At (k : ℕ) (x : Ring × List ℕ) : Type 0 where
+    pub ring : RingAt rowBytes 8 9 (G .h) slot (src op G) (own op G) (padRow op G l p₀) k (x .0)
+    pub classes : begins k ≡ false → x .1 ≡ classesOf op four G l p₀ bw n k
+    pub kept : Kept op four G l p₀ bw n (x .1)
+    pub slots : 760 ≤ length (x .0 .slots)
+    pub indices : 10 ≤ length (x .0 .idx)
+
+  module _ (k : ℕ) (p : List ℕ) (x : Ring × List ℕ) (hk : k < G .h) (e : From (start k) p₀ p) (a : At k x) where
+    pub same-row : (R : ℕ) → k + 4 ≤ R → padRow op G l p R ≡ padRow op G l p₀ R
+    same-row R h = pad-same op G l p p₀ k apart e R (rw four h) hk
+
+    nine : Holds rowBytes 8 9 (G .h) slot (src op G) (own op G) (padRow op G l p₀) k 9 (newest k p (x .0))
+    nine =
+        fetched rowBytes 8 9 (G .h) slot (src op G) (own op G) (padRow op G l p₀) rule k (x .0) (own op G (k + 8)) (padRow op G l p (k + 8)) hk (a .ring) refl
+        (λ o. same-row (k + 8) (omega arith))
+
+    pub nine-still : Holds rowBytes 8 9 (G .h) slot (src op G) (own op G) (padRow op G l p₀) k 9 (ten k p (x .0))
+    nine-still =
+        cond-ring (Holds rowBytes 8 9 (G .h) slot (src op G) (own op G) (padRow op G l p₀) k 9) (begins k) _ _
+        (λ b. tenth-holds rowBytes 9 (G .h) slot (src op G) (own op G) (padRow op G l p₀) low (omega arith) k 9 (newest k p (x .0)) (padRow op G l p (k + 9)) (omega arith) (pad-size op G l p (k + 9)) nine)
+        (λ b. nine)
+
+    pub rows-seen : tab 9 (window rowBytes (ten k p (x .0))) ≡ tab 9 (λ j. padRow op G l p₀ (k + j))
+    rows-seen = tab-cong 9 _ _ (window-held rowBytes 8 9 (G .h) slot (src op G) (own op G) (padRow op G l p₀) rule k 9 (ten k p (x .0)) nine-still)
+
+    pub sizes : (length (ten k p (x .0) .slots) ≡ length (x .0 .slots)) × (length (ten k p (x .0) .idx) ≡ length (x .0 .idx))
+    sizes =
+        let z = fetch-sizes (own op G (k + 8)) (padRow op G l p (k + 8)) (x .0) in
+        cond-ring (λ (r : Ring). (length (r .slots) ≡ length (x .0 .slots)) × (length (r .idx) ≡ length (x .0 .idx))) (begins k) _ _
+        (λ b. (length-sets (newest k p (x .0) .slots) (9 * rowBytes) (padRow op G l p (k + 9)) ∙ z .0, length-set (newest k p (x .0) .idx) 9 9 ∙ z .1))
+        (λ b. z)
+
+    pub next-is : ten k p (x .0) .next ≡ wrap 9 (x .0 .next)
+    next-is =
+        cond-ring (λ (r : Ring). r .next ≡ wrap 9 (x .0 .next)) (begins k) _ _
+        (λ b. fetch-next (own op G (k + 8)) (padRow op G l p (k + 8)) (x .0)) (λ b. fetch-next (own op G (k + 8)) (padRow op G l p (k + 8)) (x .0))
+
+    -- AT THE START OF A BLOCK ROW the ten rows around it are there, and give the definition's classes
+    module _ (b : begins k ≡ true) where
+      tenth : window rowBytes (withTenth (padRow op G l p (k + 9)) (newest k p (x .0))) 9 ≡ padRow op G l p₀ (k + 9)
+      tenth =
+          let g : Ring = newest k p (x .0) in
+          let z = fetch-sizes (own op G (k + 8)) (padRow op G l p (k + 8)) (x .0) in
+          let s9 : 9 * rowBytes + rowBytes ≤ length (g .slots) = rw (z .0) (omega (arith, a .slots)) in
+          let i9 : 9 < length (g .idx) = rw (z .1) (omega (arith, a .indices)) in
+          ap (rowOf rowBytes (sets (g .slots) (9 * rowBytes) (padRow op G l p (k + 9)))) (getD-set-same (g .idx) 9 9 0 i9) ∙
+          (row-same rowBytes 9 (g .slots) (padRow op G l p (k + 9)) s9 (pad-size op G l p (k + 9)) ∙ same-row (k + 9) (omega arith))
+
+      ten-rows : tab 10 (window rowBytes (ten k p (x .0))) ≡ tab 10 (λ j. padRow op G l p₀ (k + j))
+      ten-rows =
+          tab-cong 10 (window rowBytes (ten k p (x .0))) (λ j. padRow op G l p₀ (k + j))
+          (λ j hj.
+          elim (decLt j 9) [
+            | yes lt ↦ window-held rowBytes 8 9 (G .h) slot (src op G) (own op G) (padRow op G l p₀) rule k 9 (ten k p (x .0)) nine-still j lt
+            | no ge ↦ let d : j ≡ 9 = omega arith in rw (d, b) tenth
+          ])
+
+      block-row : side * (k / side) ≡ k
+      block-row = let d : k % side ≡ 0 = eqb-true (k % side) 0 b in omega arith
+
+      eight : (bx : ℕ) → bx < bw → Eight (lumaFlat (ten k p (x .0) .slots) (ten k p (x .0) .idx) (rowOrigin + side * bx)) (around op G l p₀ (side * (k / side)) (side * bx))
+      eight bx hb i j hi hj =
+          let dy = pos i -ℤ pos 2 in
+          let dx = pos j -ℤ pos 2 in
+          let y4 = eight-place 4 i (omega arith) in
+          let yb = eight-place (border op) i (omega (arith, four)) in
+          let xb = eight-place (border op) j (omega (arith, four)) in
+          let xc = eight-place (rowOrigin + side * bx) j (omega arith) in
+          flat-view 0 rowBytes 4 10 (rowOrigin + side * bx) (ten k p (x .0) .slots) (ten k p (x .0) .idx) dy dx (rw (y4 .1) (omega arith)) (rw (xc .1) (omega arith)) ∙
+          (ap (λ (v : List (List ℕ)). viewAround 4 v (rowOrigin + side * bx) dy dx) ten-rows ∙
+          (ap (λ (m : ℕ). viewAround m (tab 10 (λ r. padRow op G l p₀ (k + r))) (rowOrigin + side * bx) dy dx) (sym four) ∙
+          (row-view op G l p₀ wide (omega (arith, four)) 10 k (side * bx) dy dx (yb .0) (rw (yb .1) (omega (arith, four))) (xb .0) (rw (xb .1) (omega (arith, four))) ∙
+          ap (λ (m : ℕ). around op G l p₀ m (side * bx) dy dx) (sym block-row))))
+
+      class-is : (bx : ℕ) → bx < bw → classAt G l (ten k p (x .0)) k bx ≡ classOf op G l p₀ bx (k / side)
+      unfolding classAt classOf
+      class-is bx hb =
+          ap (λ (i : ℕ). getD (l .subclass) (getD (l .map) i 0) 0)
+          (class-same (lumaFlat (ten k p (x .0) .slots) (ten k p (x .0) .idx) (rowOrigin + side * bx)) (around op G l p₀ (side * (k / side)) (side * bx)) (eight bx hb) (l .noskip) (l .q) bx (k / side) (G .h / side))
+
+      classes-new : sets (x .1) 0 (tab bw (classAt G l (ten k p (x .0)) k)) ≡ classesOf op four G l p₀ bw n k
+      classes-new = stored (x .1) bw (classAt G l (ten k p (x .0)) k) (a .kept .size) (a .kept .rest) ∙ ap (sets (replicate 16 0) 0) (tab-cong bw _ _ class-is)
+
+    pub classes-seen : chosen k (ten k p (x .0)) (x .1) ≡ classesOf op four G l p₀ bw n k
+    classes-seen = cond-list (λ (c : List ℕ). c ≡ classesOf op four G l p₀ bw n k) (begins k) _ _ classes-new (a .classes)
+
+    -- kept classes stay kept
+    pub kept-still : Kept op four G l p₀ bw n (chosen k (ten k p (x .0)) (x .1))
+    kept-still =
+        cond-list (Kept op four G l p₀ bw n) (begins k) _ _
+        (λ b.
+        record {
+          size = length-sets (x .1) 0 (tab bw (classAt G l (ten k p (x .0)) k)) ∙ a .kept .size;
+          rest = λ j h. sets-behind (tab bw (classAt G l (ten k p (x .0)) k)) (x .1) 0 j (rw (length-tab bw (classAt G l (ten k p (x .0)) k), zero-add bw) h) ∙ a .kept .rest j h;
+          low = λ j. stored-low (x .1) bw (classAt G l (ten k p (x .0)) k) n (a .kept .low) (λ i. few (ten k p (x .0)) k i) j;
+        })
+        (λ b. a .kept)
+
+  -- the memory: the ring and the classes
+  abbrev pub memory : Memory (Ring × List ℕ) (List (List ℕ) × List ℕ) (G .h) start p₀
+  memory =
+      record {
+        take = λ k p x. (ten k p (x .0), chosen k (ten k p (x .0)) (x .1));
+        seen = λ k x. (tab 9 (window rowBytes (x .0)), x .1);
+        slide = λ x. (shift 8 (x .0), x .1);
+        At = At;
+        view = λ k. (tab 9 (λ j. padRow op G l p₀ (k + j)), classesOf op four G l p₀ bw n k);
+        sees = λ k p x hk e a i. (rows-seen k p x hk e a i, classes-seen k p x hk e a i);
+        goes = goes;
+        steady = λ k p x hk e a i. (ten-steady k p x hk e a i, chosen k (ten-steady k p x hk e a i) (x .1));
+      }
+    where
+      goes : (k : ℕ) (p : List ℕ) (x : Ring × List ℕ) → k < G .h → From (start k) p₀ p → At k x → At (k + 1) (shift 8 (ten k p (x .0)), chosen k (ten k p (x .0)) (x .1))
+      goes k p x hk e a =
+          record {
+            ring =
+                shifted rowBytes 8 9 (G .h) slot (src op G) (own op G) (padRow op G l p₀) rule k (ten k p (x .0)) (nine-still k p x hk e a)
+                (next-is k p x hk e a ∙ next-slot k (x .0 .next) (a .ring .next));
+            classes = λ z. classes-seen k p x hk e a ∙ ap (λ (y : ℕ). sets (replicate 16 0) 0 (tab bw (λ bx. classOf op G l p₀ bx y))) (still k z);
+            kept = kept-still k p x hk e a;
+            slots = rw (sizes k p x hk e a .0) (a .slots);
+            indices = rw (slid-length 8 (ten k p (x .0) .idx), sizes k p x hk e a .1) (a .indices);
+          }
+        where
+          next-slot : (k m : ℕ) → m ≡ slot (k + 8) → wrap 9 m ≡ slot (k + 1 + 8)
+          next-slot k m h = let d : k + 1 + 8 ≡ k + 8 + 1 = omega arith in rw (h, d) (sym (rule .wraps (k + 8)))
+
+          still : (k : ℕ) → begins (k + 1) ≡ false → k / side ≡ (k + 1) / side
+          still k z = let d : (k + 1) % side ≡ 0 → ⊥ = eqb-false ((k + 1) % side) 0 z in omega arith
+
+      ten-steady : (k : ℕ) (p : List ℕ) (x : Ring × List ℕ) → k < G .h → From (start k) p₀ p → At k x → ten k p (x .0) ≡ ten k p₀ (x .0)
+      ten-steady k p x hk e a =
+          let f : newest k p (x .0) ≡ newest k p₀ (x .0) =
+          fetch-same rowBytes 8 (own op G (k + 8)) (padRow op G l p (k + 8)) (padRow op G l p₀ (k + 8)) (x .0) (λ o. same-row k p x hk e a (k + 8) (omega arith)) in
+          λ i. cond (begins k) (withTenth (same-row k p x hk e a (k + 9) (omega arith) i) (f i)) (f i)
+
+-- entries that all pass a test: each is below n, also past the end where n is above 0
+every-low : (n : ℕ) (xs : List ℕ) → 0 < n → every (λ c. ltb c n) xs ≡ true → (j : ℕ) → getD xs j 0 < n
+every-low n [] s e j = s
+every-low n (x ∷ xs) s e zero = ltb-true x n (both (ltb x n) (every (λ c. ltb c n) xs) e .0)
+every-low n (x ∷ xs) s e (suc j) = every-low n xs s (both (ltb x n) (every (λ c. ltb c n) xs) e .1) j
+
+-- a list that is not empty and whose entries are below n: n is above 0
+some-below : (n : ℕ) (xs : List ℕ) → 0 < length xs → every (λ c. ltb c n) xs ≡ true → 0 < n
+some-below n [] h e = absurd (omega arith)
+some-below n (x ∷ xs) h e = let l : x < n = ltb-true x n (both (ltb x n) (every (λ c. ltb c n) xs) e .0) in omega arith
+
+-- A CLASSED UNIT THAT WAS OPENED, of either operation: `sample` is its filter of one sample, `cell` what the code writes
+module _ (op : Operation) (four : border op ≡ 4) (ten₀ : (n : Numbers) (l : Lent) (p : List ℕ) → openRings op n l p ≡ openTen op n l p)
+    (sample : (ℤ → ℤ → ℕ) → (ℕ → ℤ) → ℕ) (agree : (s t : ℤ → ℤ → ℕ) (c : ℕ → ℤ) → Agree 4 s t → sample s c ≡ sample t c)
+    (cell : List ℕ → List ℕ → List ℤ → List ℕ → ℕ → ℕ → ℕ → ℕ)
+    (cells : (slots idx : List ℕ) (filters : List ℤ) (classes : List ℕ) (mask old x : ℕ) → cell slots idx filters classes mask old x ≡
+    cond (masked mask (x / side)) old (sample (lumaFlat slots idx (rowOrigin + x)) (setOf op filters (getD classes (x / side) 0))))
+    (finals : (g : Given) (l : Lent) (p : List ℕ) (y x : ℕ) → finalSample g l p op y x ≡
+    cond (masked (maskAt (l .skip) y) (x / side)) (getD p (g .off + y * g .stride + x) 0)
+    (sample (around op g l p y x) (setOf op (l .filters) (classOf op g l p (x / side) (y / side)))))
+    (stepped : (l : Lent) (s : State) (p : List ℕ) → stepOf op l (record { state = s; plane = p }) ≡
+    record { state = classedState op l s p; plane = painted op l s p (cell (tookClassed op l s p .slots) (tookClassed op l s p .idx) (l .filters) (classesNow op l s p) (maskAt (l .skip) (s .done))) })
+    (size+ : 0 < setSize op)
+    (maps : (g : Given) (z : Sizes) → badFilters op g z op ≡ false → z .badMap ≡ false)
+    (keeps : (c : List ℕ) (m : ℕ) → badKept op c m ≡ not (firstPass (λ k. ltb k (m / setSize op)) 16 c))
+    (limits : (indexLimit op ≡ 9) × (nextLimit op ≡ 8)) (numbered : eqb (numberOf op) 0 ≡ false) where
+  -- sample x of row y, from the rows that the filter sees and the classes
+  abbrev pub classedSeen : Lent → ℕ → List (List ℕ) × List ℕ → ℕ → ℕ → ℕ
+  classedSeen l y v old x =
+      cond (masked (maskAt (l .skip) y) (x / side)) old (sample (viewAround 4 (v .0) (rowOrigin + x)) (setOf op (l .filters) (getD (v .1) (x / side) 0)))
+
+  cell-seen : (l : Lent) (y : ℕ) (g : Ring) (c : List ℕ) (old x : ℕ) → x < 64 →
+      cell (g .slots) (g .idx) (l .filters) c (maskAt (l .skip) y) old x ≡ classedSeen l y (tab 9 (window rowBytes g), c) old x
+  cell-seen l y g c old x h =
+      cells (g .slots) (g .idx) (l .filters) c (maskAt (l .skip) y) old x ∙
+      ap (cond (masked (maskAt (l .skip) y) (x / side)) old)
+      (agree (lumaFlat (g .slots) (g .idx) (rowOrigin + x)) (viewAround 4 (tab 9 (window rowBytes g)) (rowOrigin + x)) (setOf op (l .filters) (getD c (x / side) 0))
+      (λ dy dx ny nx.
+      let r = place-high 4 dy 4 ny in
+      let k = place-high (rowOrigin + x) dx 4 nx in
+      flat-view 0 rowBytes 4 9 (rowOrigin + x) (g .slots) (g .idx) dy dx (omega arith) (omega arith)))
+
+  module _ (n : Numbers) (l : Lent) (p₀ : List ℕ) (f : openStatus op n l p₀ ≡ 0) where
+    abbrev pub G : Given
+    G = givenOf n
+
+    pub good : Fine op G (sizesOf op l p₀)
+    good = fine op G (sizesOf op l p₀) f
+
+    abbrev pub sets′ : ℕ
+    sets′ = length (l .filters) / setSize op
+
+    -- the map leads to subclasses, and these to sets
+    pub map-good : (length (l .map) ≡ 4096) × (every (λ m. ltb m (length (l .subclass))) (l .map) ≡ true) × (every (λ c. ltb c sets′) (l .subclass) ≡ true)
+    map-good =
+        let m : badMapOf op l ≡ false = maps G (sizesOf op l p₀) (good .filters) in
+        let u = not-both (not (eqb (length (l .map)) 4096) || not (every (λ k. ltb k (length (l .subclass))) (l .map))) (not (every (λ c. ltb c sets′) (l .subclass))) m in
+        let v = not-both (not (eqb (length (l .map)) 4096)) (not (every (λ k. ltb k (length (l .subclass))) (l .map))) (u .0) in
+        (eqb-true (length (l .map)) 4096 (not-not (eqb (length (l .map)) 4096) (v .0)), not-not (every (λ k. ltb k (length (l .subclass))) (l .map)) (v .1), not-not (every (λ c. ltb c sets′) (l .subclass)) (u .1))
+
+    pub some-set : 0 < sets′
+    some-set = some-below sets′ (l .subclass) (some-below (length (l .subclass)) (l .map) (rw (map-good .0) (omega arith)) (map-good .1)) (map-good .2)
+
+    pub few-classes : (r : Ring) (y bx : ℕ) → classAt G l r y bx < sets′
+    unfolding classAt
+    few-classes r y bx = every-low sets′ (l .subclass) some-set (map-good .2) _
+
+    eights : border op + border op ≡ 8
+    eights = omega (arith, four)
+
+    tall : 1 ≤ G .h
+    tall = omega (arith, good .tall .low)
+
+    pub rule₈ : Rule rowBytes 8 9 (G .h) slot (src op G) (own op G) (padRow op G l p₀)
+    rule₈ =
+        subst (λ (m : ℕ). Rule rowBytes m 9 (G .h) slot (src op G) (own op G) (padRow op G l p₀)) eights
+        (ring-rule op G l p₀ tall 9 slot (omega (arith, four)) (λ a. omega (arith, four)) (λ a b h k. omega (arith, four)) (λ a. rw eights (wraps a)))
+
+    pub low₈ : (a : ℕ) → slot a ≤ 8
+    low₈ a = omega arith
+
+    pub blocks₈ : G .w / side * 4 ≤ G .w
+    blocks₈ = omega arith
+
+    pub apart₈ : border op ≤ G .stride
+    apart₈ = omega (arith, four, good .apart, good .wide .low)
+
+    abbrev pub mem : Memory (Ring × List ℕ) (List (List ℕ) × List ℕ) (G .h) (λ k. G .off + k * G .stride) p₀
+    mem = memory op four G l p₀ (G .w / side) sets′ slot low₈ rule₈ (good .wide .high) blocks₈ apart₈ few-classes some-set
+
+    abbrev pub there : ℕ → Ring × List ℕ → State
+    there k m = record { op = numberOf op; numbers = n; done = k; next = m .0 .next; classes = m .1; indices = m .0 .idx; rows = m .0 .slots }
+
+    -- the code's ring and classes are the memory's
+    took-is : (k : ℕ) (m : Ring × List ℕ) (p : List ℕ) → took op l (there k m) p ≡ fetch rowBytes 8 (own op G (k + 8)) (padRow op G l p (k + 8)) (m .0)
+    unfolding took
+    took-is k m p = λ i. fetch rowBytes (eights i) (own op G (k + eights i)) (padRow op G l p (k + eights i)) (m .0)
+
+    ten-is : (k : ℕ) (m : Ring × List ℕ) (p : List ℕ) → tookClassed op l (there k m) p ≡ mem .take k p m .0
+    unfolding tookClassed
+    ten-is k m p = λ i. cond (begins k) (withTenth (padRow op G l p (k + 9)) (took-is k m p i)) (took-is k m p i)
+
+    classes-are : (k : ℕ) (m : Ring × List ℕ) (p : List ℕ) → classesNow op l (there k m) p ≡ mem .take k p m .1
+    unfolding classesNow
+    classes-are k m p = λ i. cond (begins k) (sets (m .1) 0 (tab (G .w / side) (classAt G l (ten-is k m p i) k))) (m .1)
+
+    row-room : (k : ℕ) → k < n .h → n .off + k * n .stride + n .w ≤ length p₀
+    row-room k h = omega (arith, good .plane .high, good .tall .low, mul-le-mul-right (n .stride) (within k h))
+      where
+        within : (k : ℕ) → k < n .h → k ≤ n .h + planeRows op (n .edges) - 1
+        within k h = omega arith
+
+    admits : (c k : ℕ) (m : Ring × List ℕ) (p : List ℕ) → mem .At k m → k ≤ n .h → length p ≡ length p₀ → statusOf (callOf op c l) (there k m) p ≡ 0
+    unfolding statusOf badState
+    admits c k m p a h e =
+        let i : indicesUpTo 9 (m .0 .idx) ≡ true = pass-all (λ j. leb j 9) (m .0 .idx) 10 (λ j hj. le-leb (getD (m .0 .idx) j 0) 9 (a .ring .holds .bounded j)) in
+        let d : ltb (n .h) k ≡ false = le-ltb (n .h) k h in
+        let t : ltb 8 (m .0 .next) ≡ false = le-ltb 8 (m .0 .next) (rw (a .ring .next) (omega arith)) in
+        let o : eqb (numberOf op) (numberOf op) ≡ true = eq-eqb (numberOf op) (numberOf op) refl in
+        let b : badKept op (m .1) (length (l .filters)) ≡ false =
+        keeps (m .1) (length (l .filters)) ∙ ap not (pass-all (λ j. ltb j sets′) (m .1) 16 (λ j hj. lt-ltb (getD (m .1) j 0) sets′ (a .kept .low j))) in
+        let u : unitStatus op G (sizesOf op l p) ≡ 0 = rw e f in
+        rw (o, d, limits .0, i, limits .1, t, b) u
+
+    final-seen : (y x : ℕ) → x < n .w →
+        finalSample G l p₀ op y x ≡ classedSeen l y (tab 9 (λ j. padRow op G l p₀ (y + j)), classesOf op four G l p₀ (G .w / side) sets′ y) (getD p₀ (n .off + y * n .stride + x) 0) x
+    final-seen y x h =
+        let cls : List ℕ = classesOf op four G l p₀ (G .w / side) sets′ y in
+        let hx : x / side < G .w / side = omega (arith, good .wide .fours) in
+        let hw : x / side < 16 = omega (arith, good .wide .high) in
+        let zeros : List ℕ = replicate 16 0 in
+        let size : length zeros ≡ 16 = length-replicate {A = ℕ} 16 0 in
+        let e : getD cls (x / side) 0 ≡ classOf op G l p₀ (x / side) (y / side) = stored-at zeros (G .w / side) (λ bx. classOf op G l p₀ bx (y / side)) (x / side) hx (rw size hw) in
+        finals G l p₀ y x ∙
+        ap (cond (masked (maskAt (l .skip) y) (x / side)) (getD p₀ (n .off + y * n .stride + x) 0))
+        (sym
+        (agree (viewAround 4 (tab 9 (λ j. padRow op G l p₀ (y + j))) (rowOrigin + x)) (around op G l p₀ y x) (setOf op (l .filters) (getD cls (x / side) 0)) (nine-view y x h) ∙
+        ap (λ (c : ℕ). sample (around op G l p₀ y x) (setOf op (l .filters) c)) e))
+      where
+        nine-view : (y x : ℕ) → x < n .w → Agree 4 (viewAround 4 (tab 9 (λ j. padRow op G l p₀ (y + j))) (rowOrigin + x)) (around op G l p₀ y x)
+        nine-view y x h =
+            subst (λ (m : ℕ). Agree m (viewAround m (tab (m + m + 1) (λ j. padRow op G l p₀ (y + j))) (rowOrigin + x)) (around op G l p₀ y x)) four
+            (pad-view op G l p₀ (good .wide .high) (omega (arith, four)) y x h)
+
+    zeros-low : (j : ℕ) → getD (0 ∷ 0 ∷ []) j 0 ≤ 9
+    zeros-low zero = zero-le
+    zeros-low (suc zero) = zero-le
+    zeros-low (suc (suc j)) = zero-le
+
+    opens₈ : RingAt rowBytes 8 9 (G .h) slot (src op G) (own op G) (padRow op G l p₀) 0 (openTen op n l p₀)
+    opens₈ =
+        subst (λ (m : ℕ). RingAt rowBytes m 9 (G .h) slot (src op G) (own op G) (padRow op G l p₀) 0 (openTen op n l p₀)) eights
+        (opens op G l p₀ (replicate 1080 0) (0 ∷ 0 ∷ []) (omega (arith, four, good .tall .low)) tall 9 slot (omega (arith, four)) (λ j h. omega (arith, four))
+        (rw (length-replicate {A = ℕ} 1080 0) (omega (arith, four))) (omega arith) zeros-low)
+
+    open-sizes : (760 ≤ length (openTen op n l p₀ .slots)) × (10 ≤ length (openTen op n l p₀ .idx))
+    unfolding openRing filled
+    open-sizes = (
+      rw (filled-size rowBytes (firstRow op G) (padRow op G l p₀) (replicate 1080 0) (pad-size op G l p₀) (border op + border op), length-replicate {A = ℕ} 1080 0) (omega arith),
+      rw (length-append (tab (border op + border op) (openIndex op G)) (0 ∷ 0 ∷ []), length-tab (border op + border op) (openIndex op G)) (omega (arith, four)),
+    )
+
+    zero-kept : Kept op four G l p₀ (G .w / side) sets′ (replicate 16 0)
+    zero-kept =
+        record {
+          size = length-replicate {A = ℕ} 16 0;
+          rest = λ j h. all-zero j;
+          low = λ j. rw (all-zero j) some-set;
+        }
+      where
+        all-zero : (j : ℕ) → _≡_ {A = ℕ} (getD (replicate 16 0) j 0) 0
+        all-zero j =
+            let zs : List ℕ = replicate 16 0 in
+            let size : length zs ≡ 16 = length-replicate {A = ℕ} 16 0 in
+            elim (decLt j 16) [
+              | yes lt ↦ getD-replicate 16 j 0 0 lt
+              | no ge ↦ let le : length zs ≤ j = rw size (omega arith) in List·getD-eq-default zs 0 le
+            ]
+
+    pub shown : Shown units (frameOf op n l p₀) mem (λ a. classedSeen l) there
+    unfolding openState classedState
+    shown =
+        record {
+          apart = omega (arith, good .apart);
+          room = row-room;
+          first = (openTen op n l p₀, replicate 16 0);
+          opens = λ i. record { op = numberOf op; numbers = n; done = 0; next = ten₀ n l p₀ i .next; classes = replicate 16 0; indices = ten₀ n l p₀ i .idx; rows = ten₀ n l p₀ i .slots };
+          holds =
+              record {
+                ring = opens₈;
+                classes = λ z. absurd (never (sym z));
+                kept = zero-kept;
+                slots = open-sizes .0;
+                indices = open-sizes .1;
+              };
+          rows = λ k m. refl;
+          height = λ k m. refl;
+          complete = λ k m. rw numbered;
+          count = λ a c. refl;
+          admits = λ a c k m p ok at h like. admits c k m p at h (like .size);
+          pieces = λ a c k j m. refl;
+          final = λ a y x hy hx. final-seen y x hx;
+          steps = λ a c k m p hk at.
+              stepped l (there k m) p ∙
+              (λ i.
+              record {
+                state = there (k + 1) (shift 8 (ten-is k m p i), classes-are k m p i);
+                plane =
+                    sets p (n .off + k * n .stride)
+                    (tab (n .w) (λ x. cell (ten-is k m p i .slots) (ten-is k m p i .idx) (l .filters) (classes-are k m p i) (maskAt (l .skip) k) (getD p (n .off + k * n .stride + x) 0) x));
+              }) ∙
+              (λ i.
+              record {
+                state = there (k + 1) (mem .slide (mem .take k p m));
+                plane =
+                    sets p (n .off + k * n .stride)
+                    (tab-cong (n .w) _ _
+                    (λ x hx. cell-seen l k (mem .take k p m .0) (mem .take k p m .1) (getD p (n .off + k * n .stride + x) 0) x (omega (arith, good .wide .high)))
+                    i);
+              });
+        }
+
+    -- DEMAND 3
+    pub classed-history : Histories op n l p₀
+    classed-history = theorem units (frameOf op n l p₀) mem (λ a. classedSeen l) there shown
+
+-- THE TWO OPERATIONS
+maps-user : (g : Given) (z : Sizes) → badFilters user g z user ≡ false → z .badMap ≡ false
+maps-user g z e = not-both (not (eqb (z .filters % setSize user) 0)) (z .badMap) e .1
+
+maps-pretrained : (g : Given) (z : Sizes) → badFilters pretrained g z pretrained ≡ false → z .badMap ≡ false
+maps-pretrained g z e = not-both (not (eqb (z .filters % setSize pretrained) 0)) (z .badMap) e .1
+
+pub user-history : (n : Numbers) (l : Lent) (p₀ : List ℕ) → openStatus user n l p₀ ≡ 0 → Histories user n l p₀
+unfolding finalSample userCell userPlane
+user-history n l p₀ f =
+    classed-history user refl (λ n l p. refl) (lumaSample limit8) (λ s t c a. luma-agree limit8 s t c c a (λ k h. refl)) userCell
+    (λ slots idx filters classes mask old x. refl) (λ g l p y x. refl) (λ l s p. refl) (omega arith) maps-user (λ c m. refl) (refl, refl) refl n l p₀ f
+
+pub pretrained-history : (n : Numbers) (l : Lent) (p₀ : List ℕ) → openStatus pretrained n l p₀ ≡ 0 → Histories pretrained n l p₀
+unfolding finalSample pretrainedCell pretrainedPlane
+pretrained-history n l p₀ f =
+    classed-history pretrained refl (λ n l p. refl) (pretrainedSample limit8) (λ s t c a. pretrained-agree limit8 s t c c a (λ k h. refl)) pretrainedCell
+    (λ slots idx filters classes mask old x. refl) (λ g l p y x. refl) (λ l s p. refl) (omega arith) maps-pretrained (λ c m. refl) (refl, refl) refl n l p₀ f

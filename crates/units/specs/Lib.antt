@@ -5,8 +5,14 @@ pub mod Cells
 pub mod Open
 pub mod Operations
 pub mod Openings
+pub mod Advances
+pub mod Wholes
 pub mod Classed
+pub mod ClassedRows
 pub mod Chroma
+pub mod ChromaRows
 pub mod Luma
 pub mod LumaHistory
 pub mod ClassedHistory
+pub mod ChromaHistory
+pub mod LumaFrom

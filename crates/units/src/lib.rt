@@ -1,9 +1,17 @@
 // Units that can be broken off between rows: open hands out a state, advance takes it with a row count and hands it back.
 ghost use mathlib.Core.Path.{_≡_};
 ghost use Rattle.units.specs.Operations.{answer, Answered, isFinished};
+ghost use Rattle.definition.specs.Units.{user, pretrained, chroma};
+ghost use Rattle.units.specs.Openings as Openings;
+ghost use Rattle.units.specs.Advances.{callOf};
+ghost use Rattle.units.specs.Chroma.{chromaLent, numbersC};
+ghost use Rattle.units.specs.Classed.{classedLent};
 ghost use Rattle.units.specs.Luma.{lumaLent, lumaCall, Begun, numbersY, Whole};
 
+mod chroma;
+mod classed;
 mod luma;
+mod luma_rows;
 mod refusals;
 mod restore;
 mod rows;
@@ -95,6 +103,162 @@ impl State {
         }
         luma::advanced(self, count, p, left, lpf, lpf_bottom, filter, skip)
     }
+
+    // The next count rows of a unit with user sets, or all that remain.
+    pub fn advance_n(
+        self,
+        count: usize,
+        p: &mut [u8],
+        left: &[u8],
+        lpf: &[u8],
+        lpf_bottom: &[u8],
+        filters: &[i8],
+        map: &[u8],
+        subclass: &[u8],
+        noskip: &[u16],
+        base_q: i32,
+        skip: &[u16],
+    ) -> Advanced
+        ensures { λ r. ⌜ Answered r (now (p .exit)) (answer (callOf user count (classedLent (now (left .entry)) (now (lpf .entry)) (now («lpf_bottom» .entry)) (now (filters .entry)) (now (map .entry)) (now (subclass .entry)) (now (noskip .entry)) (now (skip .entry)) «base_q»)) self (now (p .entry))) ⌝ }
+    {
+        let status = classed::status(
+            2,
+            self,
+            p.len(),
+            left.len(),
+            lpf.len(),
+            lpf_bottom.len(),
+            filters.len(),
+            map,
+            subclass,
+            noskip.len(),
+            skip.len(),
+        );
+        if status != 0 {
+            return Advanced {
+                status,
+                pieces: 0,
+                state: self,
+            };
+        }
+        classed::advanced_n(
+            self,
+            count,
+            p,
+            left,
+            lpf,
+            lpf_bottom,
+            filters,
+            map,
+            subclass,
+            noskip,
+            base_q,
+            skip,
+        )
+    }
+
+    // The next count rows of a unit with pretrained sets, or all that remain.
+    pub fn advance_p(
+        self,
+        count: usize,
+        p: &mut [u8],
+        left: &[u8],
+        lpf: &[u8],
+        lpf_bottom: &[u8],
+        filters: &[i16],
+        map: &[u8],
+        subclass: &[u8],
+        noskip: &[u16],
+        base_q: i32,
+        skip: &[u16],
+    ) -> Advanced
+        ensures { λ r. ⌜ Answered r (now (p .exit)) (answer (callOf pretrained count (classedLent (now (left .entry)) (now (lpf .entry)) (now («lpf_bottom» .entry)) (now (filters .entry)) (now (map .entry)) (now (subclass .entry)) (now (noskip .entry)) (now (skip .entry)) «base_q»)) self (now (p .entry))) ⌝ }
+    {
+        let status = classed::status(
+            3,
+            self,
+            p.len(),
+            left.len(),
+            lpf.len(),
+            lpf_bottom.len(),
+            filters.len(),
+            map,
+            subclass,
+            noskip.len(),
+            skip.len(),
+        );
+        if status != 0 {
+            return Advanced {
+                status,
+                pieces: 0,
+                state: self,
+            };
+        }
+        classed::advanced_p(
+            self,
+            count,
+            p,
+            left,
+            lpf,
+            lpf_bottom,
+            filters,
+            map,
+            subclass,
+            noskip,
+            base_q,
+            skip,
+        )
+    }
+
+    // The next count rows of a chroma unit, or all that remain.
+    pub fn advance_c(
+        self,
+        count: usize,
+        p: &mut [u8],
+        left: &[u8],
+        lpf: &[u8],
+        lpf_bottom: &[u8],
+        filter: &[i8],
+        luma: &[u8],
+        luma_top: &[u8],
+        luma_bottom: &[u8],
+        skip: &[u16],
+    ) -> Advanced
+        ensures { λ r. ⌜ Answered r (now (p .exit)) (answer (callOf chroma count (chromaLent (now (left .entry)) (now (lpf .entry)) (now («lpf_bottom» .entry)) (now (filter .entry)) (now (luma .entry)) (now («luma_top» .entry)) (now («luma_bottom» .entry)) (now (skip .entry)))) self (now (p .entry))) ⌝ }
+    {
+        let status = chroma::status(
+            self,
+            p.len(),
+            left.len(),
+            lpf.len(),
+            lpf_bottom.len(),
+            filter.len(),
+            luma.len(),
+            luma_top.len(),
+            luma_bottom.len(),
+            skip.len(),
+        );
+        if status != 0 {
+            return Advanced {
+                status,
+                pieces: 0,
+                state: self,
+            };
+        }
+        chroma::advanced(
+            self,
+            count,
+            p,
+            left,
+            lpf,
+            lpf_bottom,
+            filter,
+            luma,
+            luma_top,
+            luma_bottom,
+            skip,
+        )
+    }
 }
 
 // A luma unit, opened over a plane that is not written.
@@ -179,6 +343,354 @@ pub fn ns_wiener_single_y_8bpc(
     }
     let state = opened.state;
     let done = state.advance_y(h, p, left, lpf, lpf_bottom, filter, skip);
+    Restored {
+        status: done.status,
+        pieces: done.pieces,
+    }
+}
+
+// A unit with user sets, opened over a plane that is not written.
+pub fn open_n(
+    p: &[u8],
+    p_off: usize,
+    stride: usize,
+    left: &[u8],
+    lpf: &[u8],
+    lpf_off: usize,
+    lpf_bottom: &[u8],
+    lpf_bottom_off: usize,
+    w: usize,
+    h: usize,
+    filters: &[i8],
+    map: &[u8],
+    subclass: &[u8],
+    noskip: &[u16],
+    base_q: i32,
+    edges: usize,
+    skip: &[u16],
+) -> Opened
+    ensures { λ r. ⌜ Openings.Begun user r (numbersY w h edges stride «p_off» «lpf_off» «lpf_bottom_off») (classedLent (now (left .entry)) (now (lpf .entry)) (now («lpf_bottom» .entry)) (now (filters .entry)) (now (map .entry)) (now (subclass .entry)) (now (noskip .entry)) (now (skip .entry)) «base_q») (now (p .entry)) ⌝ }
+{
+    let g = luma::numbers(w, h, edges, stride, p_off, lpf_off, lpf_bottom_off);
+    let status = classed::unit_status(
+        2,
+        g,
+        p.len(),
+        left.len(),
+        lpf.len(),
+        lpf_bottom.len(),
+        filters.len(),
+        map,
+        subclass,
+        noskip.len(),
+        skip.len(),
+    );
+    classed::open(2, g, status, p, left, lpf, lpf_bottom)
+}
+
+// A whole unit with user sets.
+pub fn ns_wiener_multi_8bpc(
+    p: &mut [u8],
+    p_off: usize,
+    stride: usize,
+    left: &[u8],
+    lpf: &[u8],
+    lpf_off: usize,
+    lpf_bottom: &[u8],
+    lpf_bottom_off: usize,
+    w: usize,
+    h: usize,
+    filters: &[i8],
+    map: &[u8],
+    subclass: &[u8],
+    noskip: &[u16],
+    base_q: i32,
+    edges: usize,
+    skip: &[u16],
+) -> Restored
+    ensures { λ r. ⌜ Openings.Whole user r (numbersY w h edges stride «p_off» «lpf_off» «lpf_bottom_off») (classedLent (now (left .entry)) (now (lpf .entry)) (now («lpf_bottom» .entry)) (now (filters .entry)) (now (map .entry)) (now (subclass .entry)) (now (noskip .entry)) (now (skip .entry)) «base_q») (now (p .entry)) (now (p .exit)) ⌝ }
+{
+    let opened = open_n(
+        p,
+        p_off,
+        stride,
+        left,
+        lpf,
+        lpf_off,
+        lpf_bottom,
+        lpf_bottom_off,
+        w,
+        h,
+        filters,
+        map,
+        subclass,
+        noskip,
+        base_q,
+        edges,
+        skip,
+    );
+    if opened.status != 0 {
+        return Restored {
+            status: opened.status,
+            pieces: 0,
+        };
+    }
+    let state = opened.state;
+    let done = state.advance_n(
+        h,
+        p,
+        left,
+        lpf,
+        lpf_bottom,
+        filters,
+        map,
+        subclass,
+        noskip,
+        base_q,
+        skip,
+    );
+    Restored {
+        status: done.status,
+        pieces: done.pieces,
+    }
+}
+
+// A unit with pretrained sets, opened over a plane that is not written.
+pub fn open_p(
+    p: &[u8],
+    p_off: usize,
+    stride: usize,
+    left: &[u8],
+    lpf: &[u8],
+    lpf_off: usize,
+    lpf_bottom: &[u8],
+    lpf_bottom_off: usize,
+    w: usize,
+    h: usize,
+    filters: &[i16],
+    map: &[u8],
+    subclass: &[u8],
+    noskip: &[u16],
+    base_q: i32,
+    edges: usize,
+    skip: &[u16],
+) -> Opened
+    ensures { λ r. ⌜ Openings.Begun pretrained r (numbersY w h edges stride «p_off» «lpf_off» «lpf_bottom_off») (classedLent (now (left .entry)) (now (lpf .entry)) (now («lpf_bottom» .entry)) (now (filters .entry)) (now (map .entry)) (now (subclass .entry)) (now (noskip .entry)) (now (skip .entry)) «base_q») (now (p .entry)) ⌝ }
+{
+    let g = luma::numbers(w, h, edges, stride, p_off, lpf_off, lpf_bottom_off);
+    let status = classed::unit_status(
+        3,
+        g,
+        p.len(),
+        left.len(),
+        lpf.len(),
+        lpf_bottom.len(),
+        filters.len(),
+        map,
+        subclass,
+        noskip.len(),
+        skip.len(),
+    );
+    classed::open(3, g, status, p, left, lpf, lpf_bottom)
+}
+
+// A whole unit with pretrained sets.
+pub fn pc_wiener_8bpc(
+    p: &mut [u8],
+    p_off: usize,
+    stride: usize,
+    left: &[u8],
+    lpf: &[u8],
+    lpf_off: usize,
+    lpf_bottom: &[u8],
+    lpf_bottom_off: usize,
+    w: usize,
+    h: usize,
+    filters: &[i16],
+    map: &[u8],
+    subclass: &[u8],
+    noskip: &[u16],
+    base_q: i32,
+    edges: usize,
+    skip: &[u16],
+) -> Restored
+    ensures { λ r. ⌜ Openings.Whole pretrained r (numbersY w h edges stride «p_off» «lpf_off» «lpf_bottom_off») (classedLent (now (left .entry)) (now (lpf .entry)) (now («lpf_bottom» .entry)) (now (filters .entry)) (now (map .entry)) (now (subclass .entry)) (now (noskip .entry)) (now (skip .entry)) «base_q») (now (p .entry)) (now (p .exit)) ⌝ }
+{
+    let opened = open_p(
+        p,
+        p_off,
+        stride,
+        left,
+        lpf,
+        lpf_off,
+        lpf_bottom,
+        lpf_bottom_off,
+        w,
+        h,
+        filters,
+        map,
+        subclass,
+        noskip,
+        base_q,
+        edges,
+        skip,
+    );
+    if opened.status != 0 {
+        return Restored {
+            status: opened.status,
+            pieces: 0,
+        };
+    }
+    let state = opened.state;
+    let done = state.advance_p(
+        h,
+        p,
+        left,
+        lpf,
+        lpf_bottom,
+        filters,
+        map,
+        subclass,
+        noskip,
+        base_q,
+        skip,
+    );
+    Restored {
+        status: done.status,
+        pieces: done.pieces,
+    }
+}
+
+// A chroma unit, opened over a plane that is not written.
+pub fn open_c(
+    p: &[u8],
+    p_off: usize,
+    stride: usize,
+    left: &[u8],
+    lpf: &[u8],
+    lpf_off: usize,
+    lpf_bottom: &[u8],
+    lpf_bottom_off: usize,
+    w: usize,
+    h: usize,
+    filter: &[i8],
+    luma: &[u8],
+    luma_off: usize,
+    lstride: usize,
+    luma_top: &[u8],
+    luma_top_off: usize,
+    luma_bottom: &[u8],
+    luma_bottom_off: usize,
+    ss_hor: usize,
+    ss_ver: usize,
+    ds_flt: usize,
+    edges: usize,
+    skip: &[u16],
+) -> Opened
+    ensures { λ r. ⌜ Openings.Begun chroma r (numbersC w h edges stride lstride «p_off» «lpf_off» «lpf_bottom_off» «luma_off» «luma_top_off» «luma_bottom_off» «ss_hor» «ss_ver» «ds_flt») (chromaLent (now (left .entry)) (now (lpf .entry)) (now («lpf_bottom» .entry)) (now (filter .entry)) (now (luma .entry)) (now («luma_top» .entry)) (now («luma_bottom» .entry)) (now (skip .entry))) (now (p .entry)) ⌝ }
+{
+    let g = Numbers {
+        w,
+        h,
+        edges,
+        stride,
+        luma_stride: lstride,
+        off: p_off,
+        top_off: lpf_off,
+        bottom_off: lpf_bottom_off,
+        luma_off,
+        luma_top_off,
+        luma_bottom_off,
+        ss_hor,
+        ss_ver,
+        kind: ds_flt,
+    };
+    chroma::open(
+        g,
+        p,
+        left,
+        lpf,
+        lpf_bottom,
+        filter,
+        luma,
+        luma_top,
+        luma_bottom,
+        skip,
+    )
+}
+
+// A whole chroma unit.
+pub fn ns_wiener_single_uv_8bpc(
+    p: &mut [u8],
+    p_off: usize,
+    stride: usize,
+    left: &[u8],
+    lpf: &[u8],
+    lpf_off: usize,
+    lpf_bottom: &[u8],
+    lpf_bottom_off: usize,
+    w: usize,
+    h: usize,
+    filter: &[i8],
+    luma: &[u8],
+    luma_off: usize,
+    lstride: usize,
+    luma_top: &[u8],
+    luma_top_off: usize,
+    luma_bottom: &[u8],
+    luma_bottom_off: usize,
+    ss_hor: usize,
+    ss_ver: usize,
+    ds_flt: usize,
+    edges: usize,
+    skip: &[u16],
+) -> Restored
+    ensures { λ r. ⌜ Openings.Whole chroma r (numbersC w h edges stride lstride «p_off» «lpf_off» «lpf_bottom_off» «luma_off» «luma_top_off» «luma_bottom_off» «ss_hor» «ss_ver» «ds_flt») (chromaLent (now (left .entry)) (now (lpf .entry)) (now («lpf_bottom» .entry)) (now (filter .entry)) (now (luma .entry)) (now («luma_top» .entry)) (now («luma_bottom» .entry)) (now (skip .entry))) (now (p .entry)) (now (p .exit)) ⌝ }
+{
+    let opened = open_c(
+        p,
+        p_off,
+        stride,
+        left,
+        lpf,
+        lpf_off,
+        lpf_bottom,
+        lpf_bottom_off,
+        w,
+        h,
+        filter,
+        luma,
+        luma_off,
+        lstride,
+        luma_top,
+        luma_top_off,
+        luma_bottom,
+        luma_bottom_off,
+        ss_hor,
+        ss_ver,
+        ds_flt,
+        edges,
+        skip,
+    );
+    if opened.status != 0 {
+        return Restored {
+            status: opened.status,
+            pieces: 0,
+        };
+    }
+    let state = opened.state;
+    let done = state.advance_c(
+        h,
+        p,
+        left,
+        lpf,
+        lpf_bottom,
+        filter,
+        luma,
+        luma_top,
+        luma_bottom,
+        skip,
+    );
     Restored {
         status: done.status,
         pieces: done.pieces,

@@ -216,7 +216,7 @@ fn no_numbers() -> Numbers
     numbers(0, 0, 0, 0, 0, 0, 0)
 }
 
-fn numbers(
+pub fn numbers(
     w: usize,
     h: usize,
     edges: usize,

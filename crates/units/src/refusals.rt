@@ -84,7 +84,7 @@ fn border_of(op: usize) -> usize
     if is_chroma(op) { 2 } else { 4 }
 }
 
-fn set_size(op: usize) -> usize
+pub fn set_size(op: usize) -> usize
     ensures { λ r. ⌜ (r ≡ setSize (operationOf op)) × (0 < r) ⌝ }
 {
     if op == 1 {

@@ -32,7 +32,7 @@ pub fn border_of(op: usize) -> usize
 }
 
 // Whether the bit of the edges that d stands for is set.
-fn is_set(edges: usize, d: usize) -> bool
+pub fn is_set(edges: usize, d: usize) -> bool
     requires { ⌜ 1 ≤ d ⌝ }
     ensures { λ r. ⌜ r ≡ eqb (edges / d % 2) 1 ⌝ }
 {
@@ -236,7 +236,7 @@ pub fn open_rows(
     rows
 }
 
-fn larger(a: usize, b: usize) -> usize
+pub fn larger(a: usize, b: usize) -> usize
     ensures { λ r. ⌜ r ≡ max a b ⌝ }
 {
     if a < b {

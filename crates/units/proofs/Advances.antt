@@ -1,0 +1,48 @@
+-- An advance of any kind: so many steps, served or declined. Assumes nothing.
+use mathlib.Core.Path.{_≡_, refl, sym, _∙_, ap}
+use mathlib.Core.List.{List}
+use Prim.Native.Nat.{ℕ, zero, suc, _+_, _-_, _/_, min}
+use native.Mathlib.Numerals.{add-one}
+use lib.ListN.{length}
+use Rattle.definition.specs.Blocks.{piecesOf}
+use Rattle.definition.specs.Units.{Operation, Lent}
+use Rattle.history.specs.History.{World, Out}
+use Rattle.history.specs.Steps.{steps}
+use Rattle.history.specs.Operation.{advanced, pickOut}
+use Rattle.units.specs.declared.State.{State}
+use Rattle.units.specs.Operations.{Answered, answer, statusOf, stepOf}
+use Rattle.units.specs.Advances.{callOf, Gone}
+
+module _ (op : Operation) (l : Lent) (s₀ : State) (p₀ : List ℕ) where
+  pub gone-none : Gone op l s₀ p₀ 0 s₀ p₀
+  gone-none = record { state = refl; plane = refl; size = refl }
+
+  -- one step more, by what the step is
+  pub gone-more : (i : ℕ) {s t : State} {p q : List ℕ} → Gone op l s₀ p₀ i s p → record { state = t; plane = q } ≡ stepOf op l (record { state = s; plane = p }) → length q ≡ length p →
+      Gone op l s₀ p₀ (i + 1) t q
+  gone-more i {s} {t} {p} {q} g e z =
+      let w : World State = record { state = s₀; plane = p₀ } in
+      let n : steps (stepOf op l) (i + 1) w ≡ stepOf op l (steps (stepOf op l) i w) = ap (λ (k : ℕ). steps (stepOf op l) k w) (add-one i) in
+      let d : record { state = t; plane = q } ≡ steps (stepOf op l) (i + 1) w =
+      e ∙ ((λ k. stepOf op l (record { state = g .state k; plane = g .plane k })) ∙ sym n) in
+      record { state = ap (λ (x : World State). x .state) d; plane = ap (λ (x : World State). x .plane) d; size = z ∙ g .size }
+
+  -- an advance that is served
+  pub served : (count n i pieces : ℕ) {s : State} {p : List ℕ} → statusOf (callOf op count l) s₀ p₀ ≡ 0 → n ≡ min count (s₀ .numbers .h - s₀ .done) → i ≡ n →
+      pieces ≡ piecesOf (l .skip) (s₀ .numbers .w / 4) (s₀ .done) n → Gone op l s₀ p₀ i s p →
+      Answered (record { status = 0; pieces = pieces; state = s }) p (answer (callOf op count l) s₀ p₀)
+  unfolding advanced
+  served count n i pieces z en ei ep g =
+      let w : Gone op l s₀ p₀ n _ _ = rw ei at g in
+      rw (z, ← en) (record { status = refl; pieces = ep; state = w .state; plane = w .plane })
+
+  -- .. and one that is declined
+  pub declined : (count st : ℕ) → st ≡ statusOf (callOf op count l) s₀ p₀ → (st ≡ 0 → ⊥) →
+      Answered (record { status = st; pieces = 0; state = s₀ }) p₀ (answer (callOf op count l) s₀ p₀)
+  unfolding advanced
+  declined count st e ne = go (statusOf (callOf op count l) s₀ p₀) _ e
+    where
+      go : (n : ℕ) (o : Out State) → st ≡ n →
+          Answered (record { status = st; pieces = 0; state = s₀ }) p₀ (pickOut n o (record { status = n; pieces = 0; state = s₀; plane = p₀ }))
+      go zero o d = absurd (ne d)
+      go (suc n) o d = record { status = d; pieces = refl; state = refl; plane = refl }

@@ -1,0 +1,245 @@
+-- Both rings of a chroma unit in one pair of arrays: what is fetched into each, the window moved on, and the step that this makes. Assumes nothing.
+use mathlib.Core.Path.{_≡_, refl, sym, _∙_, ap}
+use mathlib.Core.Bool.{Bool, true, false}
+use mathlib.Core.List.{List, [], _∷_, _++_}
+use Prim.Native.Nat.{ℕ, zero, suc, _+_, _*_, _^_, _≤_, _<_, zero-le}
+use native.Mathlib.Nat.{zero-add, suc-add}
+use native.Mathlib.Decide.{ℕ-discrete}
+use native.Mathlib.Numerals.{add-one}
+use native.Mathlib.Omega.{arith}
+use lib.IntN.{ℤ}
+use lib.ListN.{length, getD, set, take, drop, length-set, length-append, take-append-drop, List·getD-append}
+use lib.Seq.{sets, length-sets, set-append-left, length-take-le, getD-drop, take-append-seam, drop-append-seam}
+use borrow.Author.Tests.{eq-eqb, ne-eqb}
+use Rattle.definition.specs.Rows.{tab}
+use Rattle.definition.specs.Blocks.{maskAt}
+use Rattle.definition.specs.Units.{chroma, Given, Lent, sampleAt, lumaAt}
+use Rattle.history.specs.Ring.{Ring, fetch, slid, slid-length, slid-low, set-low, append-low, wrap}
+use Rattle.model.specs.Rows.{padRow, own, pad-size}
+use Rattle.model.specs.LumaRows.{lumaPadRow}
+use Rattle.units.specs.declared.Numbers.{Numbers}
+use Rattle.units.specs.States.{givenOf}
+use Rattle.units.specs.Windows.{ring, rowsLent, Fetched}
+use Rattle.units.specs.Cells.{chromaCell}
+use Rattle.units.specs.Operations.{tookOwn, tookLuma, chromaState, chromaPlane}
+use Rattle.units.specs.Chroma.{chromaLent, lumaRowsLent}
+use Rattle.units.specs.ChromaRows.{fetchBehind, LumaFetched, stateAt, Stepped}
+use Rattle.units.proofs.Behind.{set-second, sets-first, sets-second}
+
+-- TWO LISTS, one behind the other
+getD-second-at : (a b : List ℕ) (i : ℕ) → getD (a ++ b) (length a + i) 0 ≡ getD b i 0
+getD-second-at [] b i = ap (λ (k : ℕ). getD b k 0) (zero-add i)
+getD-second-at (x ∷ a) b i = ap (λ (k : ℕ). getD (x ∷ (a ++ b)) k 0) (suc-add (length a) i) ∙ getD-second-at a b i
+
+pub getD-second : (a b : List ℕ) (n i : ℕ) → length a ≡ n → getD (a ++ b) (n + i) 0 ≡ getD b i 0
+getD-second a b n i e = rw (← e) (getD-second-at a b i)
+
+pub take-first : (a b : List ℕ) (n : ℕ) → length a ≡ n → take n (a ++ b) ≡ a
+take-first a b n e = rw (← e) (take-append-seam a b)
+
+pub drop-first : (a b : List ℕ) (n : ℕ) → length a ≡ n → drop n (a ++ b) ≡ b
+drop-first a b n e = rw (← e) (drop-append-seam a b)
+
+-- in each an element takes the value of another
+pair-set : (a b : List ℕ) (n i k : ℕ) → length a ≡ n → i < n → k < n →
+    set (set (a ++ b) i (getD (a ++ b) k 0)) (n + i) (getD (set (a ++ b) i (getD (a ++ b) k 0)) (n + k) 0) ≡ set a i (getD a k 0) ++ set b i (getD b k 0)
+pair-set a b n i k e hi hk =
+    let v : ℕ = getD a k 0 in
+    let s : length (set a i v) ≡ n = length-set a i v ∙ e in
+    rw (List·getD-append a b 0 k (omega arith), set-append-left a b i (getD a k 0) (omega arith), getD-second (set a i (getD a k 0)) b n k s)
+    (set-second (set a i v) b n i (getD b k 0) s)
+
+-- the windows moved on, one index more
+pub both-slid : (j : ℕ) (a b : List ℕ) → length a ≡ 5 → j < 4 →
+    set (set (slid j a ++ slid j b) j (getD (slid j a ++ slid j b) (j + 1) 0)) (5 + j) (getD (set (slid j a ++ slid j b) j (getD (slid j a ++ slid j b) (j + 1) 0)) (5 + (j + 1)) 0) ≡
+    slid (j + 1) a ++ slid (j + 1) b
+both-slid j a b e h = rw add-one (pair-set (slid j a) (slid j b) 5 j (suc j) (slid-length j a ∙ e) (omega arith) (omega arith))
+
+-- WHAT IS FETCHED into the luma ring
+module _ (g : Given) (l : Lent) (done : ℕ) (rows idx : List ℕ) (next : ℕ) where
+  pub luma-own : {b : Bool} {row rows′ : List ℕ} → b ≡ own chroma g (done + 4) → b ≡ true → row ≡ lumaPadRow g l (done + 4) → rows′ ≡ sets rows (380 + next * 140) row →
+      LumaFetched g l done (ring rows idx next) (ring rows′ (set idx 9 next) next)
+  luma-own o t e s =
+      record {
+        is =
+            let u : own chroma g (done + 4) ≡ true = sym o ∙ t in
+            rw (u, s, e);
+      }
+
+  pub luma-again : {b : Bool} → b ≡ own chroma g (done + 4) → b ≡ false → LumaFetched g l done (ring rows idx next) (ring rows (set idx 9 (getD idx 8 0)) next)
+  luma-again o t =
+      record {
+        is =
+            let u : own chroma g (done + 4) ≡ false = sym o ∙ t in
+            rw u;
+      }
+
+-- .. and into both: over the arrays, and over their parts
+abbrev through : Bool → List ℕ → List ℕ → Ring → Ring
+through b row luma r =
+    ring (fetchBehind b luma (ring (fetch 76 4 b row r .slots) (fetch 76 4 b row r .idx) (r .next)) .slots)
+    (fetchBehind b luma (ring (fetch 76 4 b row r .slots) (fetch 76 4 b row r .idx) (r .next)) .idx) (fetch 76 4 b row r .next)
+
+abbrev apart : Bool → List ℕ → List ℕ → Ring → Ring → Ring
+apart b row luma c m = ring (fetch 76 4 b row c .slots ++ fetch 140 4 b luma m .slots) (fetch 76 4 b row c .idx ++ fetch 140 4 b luma m .idx) (fetch 76 4 b row c .next)
+
+module _ (row luma a b i j : List ℕ) (next : ℕ) (ea : length a ≡ 380) (ei : length i ≡ 5) (er : length row ≡ 76) (n : next ≤ 4) where
+  both-parts : (o : Bool) → through o row luma (ring (a ++ b) (i ++ j) next) ≡ apart o row luma (ring a i next) (ring b j next)
+  both-parts true =
+      let s : sets (sets (a ++ b) (next * 76) row) (380 + next * 140) luma ≡ sets a (next * 76) row ++ sets b (next * 140) luma =
+      rw (sets-first row a b (next * 76) (omega arith)) (sets-second luma (sets a (next * 76) row) b 380 (next * 140) (length-sets a (next * 76) row ∙ ea)) in
+      let t : set (set (i ++ j) 4 next) 9 next ≡ set i 4 next ++ set j 4 next =
+      rw (set-append-left i j 4 next (omega arith)) (set-second (set i 4 next) j 5 4 next (length-set i 4 next ∙ ei)) in
+      λ k. ring (s k) (t k) (wrap 5 next)
+  both-parts false = ap (λ (v : List ℕ). ring (a ++ b) v (wrap 5 next)) (pair-set i j 5 4 3 ei (omega arith) (omega arith))
+
+both-rings : (o : Bool) (row luma rows idx : List ℕ) (next : ℕ) → length rows ≡ 1080 → length idx ≡ 10 → length row ≡ 76 → next ≤ 4 →
+    through o row luma (ring rows idx next) ≡ apart o row luma (ring (take 380 rows) (take 5 idx) next) (ring (drop 380 rows) (drop 5 idx) next)
+both-rings o row luma rows idx next er ei ew n =
+    (λ k. through o row luma (ring (sym (take-append-drop 380 rows) k) (sym (take-append-drop 5 idx) k) next)) ∙
+    both-parts row luma (take 380 rows) (drop 380 rows) (take 5 idx) (drop 5 idx) next (length-take-le 380 rows (omega arith)) (length-take-le 5 idx (omega arith)) ew n o
+
+-- LENGTHS stay
+fetch-long : (o : Bool) (row : List ℕ) (g : Ring) → length (fetch 76 4 o row g .slots) ≡ length (g .slots)
+fetch-long true row g = length-sets (g .slots) (g .next * 76) row
+fetch-long false row g = refl
+
+fetch-count : (o : Bool) (row : List ℕ) (g : Ring) → length (fetch 76 4 o row g .idx) ≡ length (g .idx)
+fetch-count true row g = length-set (g .idx) 4 (g .next)
+fetch-count false row g = length-set (g .idx) 4 (getD (g .idx) 3 0)
+
+behind-long : (o : Bool) (row : List ℕ) (g : Ring) → length (fetchBehind o row g .slots) ≡ length (g .slots)
+behind-long true row g = length-sets (g .slots) (380 + g .next * 140) row
+behind-long false row g = refl
+
+behind-count : (o : Bool) (row : List ℕ) (g : Ring) → length (fetchBehind o row g .idx) ≡ length (g .idx)
+behind-count true row g = length-set (g .idx) 9 (g .next)
+behind-count false row g = length-set (g .idx) 9 (getD (g .idx) 8 0)
+
+slid-count : (l : List ℕ) → length (slid 4 (take 5 l) ++ slid 4 (drop 5 l)) ≡ length l
+slid-count l =
+    length-append (slid 4 (take 5 l)) (slid 4 (drop 5 l)) ∙
+    ((λ k. slid-length 4 (take 5 l) k + slid-length 4 (drop 5 l) k) ∙ (sym (length-append (take 5 l) (drop 5 l)) ∙ ap length (take-append-drop 5 l)))
+
+-- LOW INDICES
+wrap-low : (s : ℕ) → s ≤ 4 → wrap 5 s ≤ 4
+wrap-low s h =
+    elim (ℕ-discrete (s + 1) 5) [
+      | yes e ↦ rw (eq-eqb (s + 1) 5 e) (omega arith)
+      | no ne ↦ rw (ne-eqb (s + 1) 5 ne) (omega arith)
+    ]
+
+fetch-low : (o : Bool) (row : List ℕ) (g : Ring) → g .next ≤ 4 → ((j : ℕ) → getD (g .idx) j 0 ≤ 4) → (j : ℕ) → getD (fetch 76 4 o row g .idx) j 0 ≤ 4
+fetch-low true row g n h = set-low (g .idx) 4 (g .next) 4 n h
+fetch-low false row g n h = set-low (g .idx) 4 (getD (g .idx) 3 0) 4 (h 3) h
+
+behind-low : (o : Bool) (row : List ℕ) (g : Ring) → g .next ≤ 4 → ((j : ℕ) → getD (g .idx) j 0 ≤ 4) → (j : ℕ) → getD (fetchBehind o row g .idx) j 0 ≤ 4
+behind-low true row g n h = set-low (g .idx) 9 (g .next) 4 n h
+behind-low false row g n h = set-low (g .idx) 9 (getD (g .idx) 8 0) 4 (h 8) h
+
+fetch-next : (o : Bool) (row : List ℕ) (g : Ring) → g .next ≤ 4 → fetch 76 4 o row g .next ≤ 4
+fetch-next true row g h = wrap-low (g .next) h
+fetch-next false row g h = wrap-low (g .next) h
+
+take-low : (n : ℕ) (l : List ℕ) (b : ℕ) → ((j : ℕ) → getD l j 0 ≤ b) → (j : ℕ) → getD (take n l) j 0 ≤ b
+take-low zero l b h j = zero-le
+take-low (suc n) [] b h j = zero-le
+take-low (suc n) (x ∷ l) b h zero = h zero
+take-low (suc n) (x ∷ l) b h (suc j) = take-low n l b (λ i. h (suc i)) j
+
+slid-both-low : (l : List ℕ) → ((j : ℕ) → getD l j 0 ≤ 4) → (j : ℕ) → getD (slid 4 (take 5 l) ++ slid 4 (drop 5 l)) j 0 ≤ 4
+slid-both-low l h =
+    append-low (slid 4 (take 5 l)) (slid 4 (drop 5 l)) 4 (slid-low 4 4 (take 5 l) (take-low 5 l 4 h)) (slid-low 4 4 (drop 5 l) (λ j. rw (getD-drop 5 l j 0) (h (5 + j))))
+
+-- ONE ROW: fetched into both rings, restored, the windows moved on
+module _ (left top bottom : List ℕ) (filter : List ℤ) (lumaPlane lumaTop lumaBottom skip : List ℕ) where
+  abbrev lent : Lent
+  lent = chromaLent left top bottom filter lumaPlane lumaTop lumaBottom skip
+
+  pub pad-lent : (g : Given) (p : List ℕ) (R : ℕ) → padRow chroma g (rowsLent left top bottom) p R ≡ padRow chroma g lent p R
+  unfolding padRow sampleAt
+  pad-lent g p R = refl
+
+  pub luma-lent : (g : Given) (R : ℕ) → lumaPadRow g (lumaRowsLent lumaPlane lumaTop lumaBottom) R ≡ lumaPadRow g lent R
+  unfolding lumaPadRow lumaAt
+  luma-lent g R = refl
+
+  module _ (g : Numbers) (done : ℕ) (p rows idx : List ℕ) (next : ℕ) {rows′ idx′ rows″ idx″ : List ℕ} {next′ : ℕ} (n : next ≤ 4) (low : (j : ℕ) → getD idx j 0 ≤ 4)
+      (f : Fetched chroma (givenOf g) (rowsLent left top bottom) p done (ring rows idx next) (ring rows′ idx′ next′))
+      (m : LumaFetched (givenOf g) (lumaRowsLent lumaPlane lumaTop lumaBottom) done (ring rows′ idx′ next) (ring rows″ idx″ next)) where
+    abbrev given : Given
+    given = givenOf g
+
+    abbrev o : Bool
+    o = own chroma given (done + 4)
+
+    pub now-low : (j : ℕ) → getD idx″ j 0 ≤ 4
+    now-low j =
+        let e : idx″ ≡ fetchBehind o (lumaPadRow given (lumaRowsLent lumaPlane lumaTop lumaBottom) (done + 4)) (ring rows′ idx′ next) .idx = ap (λ (r : Ring). r .idx) (m .is) in
+        let d : idx′ ≡ fetch 76 4 o (padRow chroma given (rowsLent left top bottom) p (done + 4)) (ring rows idx next) .idx = ap (λ (r : Ring). r .idx) (f .is) in
+        rw e
+        (behind-low o (lumaPadRow given (lumaRowsLent lumaPlane lumaTop lumaBottom) (done + 4)) (ring rows′ idx′ next) n
+        (λ i. rw d (fetch-low o (padRow chroma given (rowsLent left top bottom) p (done + 4)) (ring rows idx next) n low i)) j)
+
+    now-next : next′ ≤ 4
+    now-next =
+        let d : next′ ≡ fetch 76 4 o (padRow chroma given (rowsLent left top bottom) p (done + 4)) (ring rows idx next) .next = ap (λ (r : Ring). r .next) (f .is) in
+        rw d (fetch-next o (padRow chroma given (rowsLent left top bottom) p (done + 4)) (ring rows idx next) n)
+
+    module _ (er : length rows ≡ 1080) (ei : length idx ≡ 10) where
+      pub now-long : length rows″ ≡ 1080
+      now-long =
+          ap (λ (r : Ring). length (r .slots)) (m .is) ∙
+          (behind-long o (lumaPadRow given (lumaRowsLent lumaPlane lumaTop lumaBottom) (done + 4)) (ring rows′ idx′ next) ∙
+          (ap (λ (r : Ring). length (r .slots)) (f .is) ∙ (fetch-long o (padRow chroma given (rowsLent left top bottom) p (done + 4)) (ring rows idx next) ∙ er)))
+
+      pub now-count : length idx″ ≡ 10
+      now-count =
+          ap (λ (r : Ring). length (r .idx)) (m .is) ∙
+          (behind-count o (lumaPadRow given (lumaRowsLent lumaPlane lumaTop lumaBottom) (done + 4)) (ring rows′ idx′ next) ∙
+          (ap (λ (r : Ring). length (r .idx)) (f .is) ∙ (fetch-count o (padRow chroma given (rowsLent left top bottom) p (done + 4)) (ring rows idx next) ∙ ei)))
+
+      abbrev ownRing : Ring
+      ownRing = fetch 76 4 o (padRow chroma given lent p (done + 4)) (ring (take 380 rows) (take 5 idx) next)
+
+      abbrev lumaRing : Ring
+      lumaRing = fetch 140 4 o (lumaPadRow given lent (done + 4)) (ring (drop 380 rows) (drop 5 idx) next)
+
+      taken : ring rows″ idx″ next′ ≡ ring (ownRing .slots ++ lumaRing .slots) (ownRing .idx ++ lumaRing .idx) (ownRing .next)
+      taken =
+          let row : List ℕ = padRow chroma given (rowsLent left top bottom) p (done + 4) in
+          let luma : List ℕ = lumaPadRow given (lumaRowsLent lumaPlane lumaTop lumaBottom) (done + 4) in
+          (λ k. ring (m .is k .slots) (m .is k .idx) next′) ∙
+          ((λ k. ring (fetchBehind o luma (ring (f .is k .slots) (f .is k .idx) next) .slots) (fetchBehind o luma (ring (f .is k .slots) (f .is k .idx) next) .idx) (f .is k .next)) ∙
+          (both-rings o row luma rows idx next er ei (pad-size chroma given (rowsLent left top bottom) p (done + 4)) n ∙
+          (λ k.
+          apart o (pad-lent given p (done + 4) k) (luma-lent given (done + 4) k) (ring (take 380 rows) (take 5 idx) next)
+          (ring (drop 380 rows) (drop 5 idx) next))))
+
+      own-size : length (ownRing .idx) ≡ 5
+      own-size = fetch-count o (padRow chroma given lent p (done + 4)) (ring (take 380 rows) (take 5 idx) next) ∙ length-take-le 5 idx (omega arith)
+
+      moved-on : {idx‴ : List ℕ} → idx‴ ≡ slid 4 (take 5 idx″) ++ slid 4 (drop 5 idx″) → idx‴ ≡ slid 4 (ownRing .idx) ++ slid 4 (lumaRing .idx)
+      moved-on d =
+          let a : take 5 idx″ ≡ ownRing .idx = ap (λ (r : Ring). take 5 (r .idx)) taken ∙ take-first (ownRing .idx) (lumaRing .idx) 5 own-size in
+          let b : drop 5 idx″ ≡ lumaRing .idx = ap (λ (r : Ring). drop 5 (r .idx)) taken ∙ drop-first (ownRing .idx) (lumaRing .idx) 5 own-size in
+          d ∙ (λ k. slid 4 (a k) ++ slid 4 (b k))
+
+      abbrev at : ℕ
+      at = g .off + done * g .stride
+
+      pub stepped : {q idx‴ : List ℕ} {mask columns : ℕ} → mask ≡ maskAt skip done → columns ≡ 2 ^ g .«ss_hor» →
+          q ≡ sets p at (tab (g .w) (λ x. chromaCell rows″ idx″ columns filter mask (getD p (at + x) 0) x)) → idx‴ ≡ slid 4 (take 5 idx″) ++ slid 4 (drop 5 idx″) →
+          Stepped g done lent p (ring rows idx next) q (ring rows″ idx‴ next′)
+      unfolding chromaState chromaPlane tookOwn tookLuma
+      stepped {mask = mask} {columns = columns} em ec e d =
+          let t = moved-on d in
+          let w = e ∙ (λ k. sets p at (tab (g .w) (λ x. chromaCell (taken k .slots) (taken k .idx) (ec k) filter (em k) (getD p (at + x) 0) x))) in
+          record {
+            turn = λ op classes. λ k. record { state = stateAt op g classes (done + 1) (ring (taken k .slots) (t k) (taken k .next)); plane = w k };
+            size = ap length e ∙ length-sets p at (tab (g .w) (λ x. chromaCell rows″ idx″ columns filter mask (getD p (at + x) 0) x));
+            low = λ j. rw d (slid-both-low idx″ now-low j);
+            next = now-next;
+            long = now-long;
+            count = ap length d ∙ (slid-count idx″ ∙ now-count);
+          }

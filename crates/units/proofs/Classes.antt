@@ -1,0 +1,166 @@
+-- The class of a block: its index is in the map, the call for it is not refused, and a class is below what all subclasses are below. Then the rows of a classed unit. Assumes nothing.
+use mathlib.Core.Path.{_≡_, refl, _∙_, ap}
+use mathlib.Core.Bool.{Bool, true, false, cond}
+use mathlib.Core.List.{List}
+use Prim.Native.Nat.{ℕ, zero, suc, _+_, _*_, _/_, _%_, _≤_, _<_}
+use native.Mathlib.Nat.{zero-add}
+use native.Mathlib.Decide.{decLt, ℕ-discrete}
+use native.Mathlib.Omega.{arith}
+use lib.Dec.{ltb, leb}
+use lib.IntN.{ℤ}
+use lib.ListN.{length, getD, set}
+use lib.Seq.{sets, getD-set-other}
+use borrow.Author.Tests.{ltb-true, le-ltb, le-leb, lt-leb, eq-eqb, ne-eqb}
+use Rattle.definition.specs.Rows.{tab, rowBytes}
+use Rattle.definition.specs.ClassIndex.{bin, term, featureBin, indexOf, classIndex}
+use Rattle.definition.specs.Refusals.{classStatus, every}
+use Rattle.definition.specs.Units.{Operation, border, Given, Lent}
+use Rattle.class_index.specs.Answers.{blockFlat, orZero}
+use Rattle.laws.proofs.Lists.{sets-in, sets-behind, length-tab, getD-tab}
+use Rattle.laws.proofs.Passes.{pass-all}
+use Rattle.model.specs.Rows.{padRow, own}
+use Rattle.history.specs.Ring.{Ring, fetch, wrap, set-low-at}
+use Rattle.units.specs.Operations.{begins, withTenth, classAt}
+use Rattle.units.specs.Windows.{ring, Fetched}
+use Rattle.units.specs.Classed.{classLent, newest, TookClassed}
+use Rattle.units.proofs.Every.{every-at}
+
+pub bin-low : (v : ℤ) → bin v ≤ 7
+unfolding bin
+bin-low v = omega arith
+
+-- an index is below the size of a map
+pub index-low : (f₀ f₁ f₂ : ℕ) (q : ℤ) (t : ℕ) → indexOf f₀ f₁ f₂ q t < 4096
+unfolding indexOf
+index-low f₀ f₁ f₂ q t =
+    let a = bin-low (term q t 0) in
+    let b : featureBin f₀ q t 0 ≤ 7 = bin-low _ in
+    let c : featureBin f₁ q t 1 ≤ 7 = bin-low _ in
+    let d : featureBin f₂ q t 2 ≤ 7 = bin-low _ in
+    omega (arith, a, b, c, d)
+
+pub class-index-low : (s : ℤ → ℤ → ℕ) (noskip : List ℕ) (q : ℤ) (bx by bh : ℕ) → classIndex s noskip q bx by bh < 4096
+class-index-low s noskip q bx by bh = index-low _ _ _ _ _
+
+-- the call is not refused
+pub class-serves : (rows : ℕ) (indices : List ℕ) (noskip bx by bh : ℕ) → 760 ≤ rows → bx ≤ 15 → by < bh → bh ≤ 16 → bh ≤ noskip →
+    ((j : ℕ) → j < 10 → getD indices j 0 ≤ 9) → classStatus rows indices noskip bx by bh ≡ 0
+unfolding classStatus
+class-serves rows indices noskip bx by bh size column line limit masks small =
+    rw (
+      le-ltb 15 bx column,
+      ne-eqb bh 0 (λ e. absurd (omega arith)),
+      le-ltb 16 bh limit,
+      lt-leb bh by line,
+      le-ltb rows 760 size,
+      pass-all (λ i. leb i 9) indices 10 (λ k h. le-leb (getD indices k 0) 9 (small k h)),
+      le-ltb noskip bh masks,
+    )
+
+-- what a call answers: the index, in the map
+orZero-low : (status n : ℕ) → n < 4096 → orZero status n < 4096
+orZero-low zero n h = h
+orZero-low (suc status) n h = omega arith
+
+module _ (rows indices noskip : List ℕ) (q : ℤ) (bx by bh : ℕ) where
+  abbrev pub answered : ℕ
+  answered = orZero (classStatus (length rows) indices (length noskip) bx by bh) (classIndex (blockFlat rows indices bx) noskip q bx by bh)
+
+  pub answered-low : answered < 4096
+  answered-low =
+      orZero-low (classStatus (length rows) indices (length noskip) bx by bh) (classIndex (blockFlat rows indices bx) noskip q bx by bh)
+      (class-index-low (blockFlat rows indices bx) noskip q bx by bh)
+
+  pub answered-is : 760 ≤ length rows → bx ≤ 15 → by < bh → bh ≤ 16 → bh ≤ length noskip → ((j : ℕ) → j < 10 → getD indices j 0 ≤ 9) →
+      answered ≡ classIndex (blockFlat rows indices bx) noskip q bx by bh
+  answered-is size column line limit masks small = rw (class-serves (length rows) indices (length noskip) bx by bh size column line limit masks small)
+
+-- an entry of a list that is all below n
+pub entry-low : (xs : List ℕ) (n k : ℕ) → k < length xs → every (λ x. ltb x n) xs ≡ true → getD xs k 0 < n
+entry-low xs n k h e = ltb-true (getD xs k 0) n (every-at (λ x. ltb x n) xs k h e)
+
+-- the class that a block is given, by the lists themselves
+abbrev pub classBy : List ℕ → List ℕ → List ℕ → ℤ → List ℕ → List ℕ → ℕ → ℕ → ℕ → ℕ
+classBy rows indices noskip q map subclass by bh bx =
+    getD subclass (getD map (classIndex (blockFlat rows indices bx) noskip q bx by bh) 0) 0
+
+pub class-is : (g : Given) (rows indices noskip map subclass : List ℕ) (q : ℤ) (next y bx : ℕ) →
+    classBy rows indices noskip q map subclass (y / 4) (g .h / 4) bx ≡ classAt g (classLent noskip map subclass q) (ring rows indices next) y bx
+unfolding classAt
+class-is g rows indices noskip map subclass q next y bx = refl
+
+-- a class is below the number of sets
+pub class-low : (g : Given) (l : Lent) (r : Ring) (y bx n : ℕ) → length (l .map) ≡ 4096 → every (λ m. ltb m (length (l .subclass))) (l .map) ≡ true →
+    every (λ c. ltb c n) (l .subclass) ≡ true → classAt g l r y bx < n
+unfolding classAt
+class-low g l r y bx n size maps subs =
+    entry-low (l .subclass) n _ (entry-low (l .map) (length (l .subclass)) _ (rw size (index-low _ _ _ _ _)) maps) subs
+
+-- .. and so is each of those kept, where some are worked out anew
+pub classes-low : (classes : List ℕ) (k m n : ℕ) (f : ℕ → ℕ) → m ≤ length classes → ((i : ℕ) → i < k → f i < n) → ((i : ℕ) → i < m → getD classes i 0 < n) →
+    (i : ℕ) → i < m → getD (sets classes 0 (tab k f)) i 0 < n
+classes-low classes k m n f h new old i l =
+    elim (decLt i k) [
+      | yes a ↦
+          let e : getD (sets classes 0 (tab k f)) (0 + i) 0 ≡ getD (tab k f) i 0 = sets-in (tab k f) classes 0 i (rw (length-tab k f) a) (omega arith) in
+          rw (rw (zero-add i) at e, getD-tab k f i a) (new i a)
+      | no b ↦ rw (sets-behind (tab k f) classes 0 i (rw (length-tab k f) (omega arith))) (old i l)
+    ]
+
+-- THE ROWS OF A CLASSED UNIT: within a block row the newest alone, at its start the tenth too
+module _ (op : Operation) (g : Given) (l : Lent) (p : List ℕ) (done : ℕ) {old : Ring} where
+  newest-is : {new : Ring} → border op ≡ 4 → Fetched op g l p done old new → new ≡ newest op g l p done old
+  newest-is e f = f .is ∙ ap (λ (m : ℕ). fetch rowBytes m (own op g (done + m)) (padRow op g l p (done + m)) old) (λ i. e i + e i)
+
+  pub took-plain : {new : Ring} → border op ≡ 4 → Fetched op g l p done old new → (done % 4 ≡ 0 → ⊥) → TookClassed op g l p done old new
+  took-plain e f h = record { is = rw (ne-eqb (done % 4) 0 h) (newest-is e f) }
+
+  pub took-tenth : {rows idx row rows′ : List ℕ} {next : ℕ} → border op ≡ 4 → Fetched op g l p done old (ring rows idx next) → done % 4 ≡ 0 →
+      row ≡ padRow op g l p (done + 9) → rows′ ≡ sets rows (9 * 76) row → TookClassed op g l p done old (ring rows′ (set idx 9 9) next)
+  took-tenth e f h t s =
+      record { is = rw (eq-eqb (done % 4) 0 h, s, t) (ap (withTenth (padRow op g l p (done + 9))) (newest-is e f)) }
+
+-- no index gets over 9, and no next slot over 8
+pub put-low : (l : List ℕ) (i v n b : ℕ) → v ≤ b → ((j : ℕ) → j < n → getD l j 0 ≤ b) → (j : ℕ) → j < n → getD (set l i v) j 0 ≤ b
+put-low l i v n b h a j k =
+    elim (ℕ-discrete j i) [
+      | yes e ↦ rw e (set-low-at l i v b h)
+      | no ne ↦ rw (getD-set-other l i j v 0 ne) (a j k)
+    ]
+
+abbrev pub Low : Ring → Type 0
+Low r = (j : ℕ) → j < 10 → getD (r .idx) j 0 ≤ 9
+
+fetch-low : (b : Bool) (row : List ℕ) (old : Ring) → old .next ≤ 8 → Low old → Low (fetch 76 8 b row old)
+fetch-low true row old h a = put-low (old .idx) 8 (old .next) 10 9 (omega arith) a
+fetch-low false row old h a = put-low (old .idx) 8 (getD (old .idx) 7 0) 10 9 (a 7 (omega arith)) a
+
+tenth-low : (b : Bool) (row : List ℕ) (r : Ring) → Low r → Low (cond b (withTenth row r) r)
+tenth-low true row r a = put-low (r .idx) 9 9 10 9 (omega arith) a
+tenth-low false row r a = a
+
+wrap-low : (n : ℕ) → n ≤ 8 → wrap 9 n ≤ 8
+wrap-low n h =
+    elim (ℕ-discrete (n + 1) 9) [
+      | yes e ↦ rw (eq-eqb (n + 1) 9 e) (omega arith)
+      | no ne ↦ rw (ne-eqb (n + 1) 9 ne) (omega arith)
+    ]
+
+fetch-next : (b : Bool) (row : List ℕ) (old : Ring) → old .next ≤ 8 → fetch 76 8 b row old .next ≤ 8
+fetch-next true row old h = wrap-low (old .next) h
+fetch-next false row old h = wrap-low (old .next) h
+
+tenth-next : (b : Bool) (row : List ℕ) (r : Ring) → r .next ≤ 8 → cond b (withTenth row r) r .next ≤ 8
+tenth-next true row r h = h
+tenth-next false row r h = h
+
+module _ {op : Operation} {g : Given} {l : Lent} {p : List ℕ} {done : ℕ} {old new : Ring} (t : TookClassed op g l p done old new) (h : old .next ≤ 8) where
+  pub took-low : Low old → Low new
+  took-low a =
+      rw (t .is)
+      (tenth-low (begins done) (padRow op g l p (done + 9)) (newest op g l p done old) (fetch-low (own op g (done + 8)) (padRow op g l p (done + 8)) old h a))
+
+  pub took-next : new .next ≤ 8
+  took-next =
+      rw (t .is)
+      (tenth-next (begins done) (padRow op g l p (done + 9)) (newest op g l p done old) (fetch-next (own op g (done + 8)) (padRow op g l p (done + 8)) old h))

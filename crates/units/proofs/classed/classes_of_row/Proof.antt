@@ -1,0 +1,81 @@
+-- `classed::classes_of_row` meets its contract. The loop's invariant: the classes of the blocks before bx are stored. Assumes nothing.
+use mathlib.Core.Path.{_≡_, refl, _∙_, ap}
+use Prim.Native.Nat.{ℕ, _-_, _/_, _≤_}
+use native.Mathlib.Nat.{zero-add}
+use native.Mathlib.Omega.{arith}
+use lib.IntN.{ℤ}
+use lib.Seq.{sets}
+use mir.Syntax.{w32}
+use mir.Val.{toZ, ofZ}
+use mir.Facts.{toZ-ofZ}
+use Rattle.definition.specs.Rows.{tab}
+use Rattle.laws.proofs.Lists.{sets-more, tab-cong}
+use Rattle.units.specs.States.{givenOf}
+use Rattle.units.specs.Windows.{ring}
+use Rattle.units.specs.Classed.{classLent}
+use Rattle.units.specs.Operations.{classAt}
+use Rattle.units.proofs.Classes.{classBy, class-is}
+use Rattle.units.proofs.classed.classes_of_row.Statement.{statement}
+use Rattle.units.proofs.classed.classes_of_row.Tie as tie
+
+abbrev Inv-loop : tie.InvT-loop
+Inv-loop done rows indices noskip base-q map subclass n by bh out₀ bx₀ out bx =
+    (bx ≤ n) × (out ≡ sets out₀ 0 (tab bx (classBy rows indices noskip (toZ w32 base-q) map subclass by bh)))
+
+abbrev μ-loop : tie.MeasureT-loop
+μ-loop done rows indices noskip base-q map subclass n by bh out₀ bx₀ out bx = n - bx
+
+loop-holds : tie.Need-loop-holds Inv-loop μ-loop
+loop-holds c = (omega arith, refl)
+
+class-of-requires : tie.Need-class-of-requires Inv-loop μ-loop
+class-of-requires c κs =
+    let s = c .before .before .before .before .before .before .before in
+    let w = s .pre .0 .0 in
+    let h = s .pre .0 .1 in
+    ((omega (arith, w .high), omega (arith, h .fours), omega (arith, h .high), s .pre .0 .3), s .pre .1)
+
+array-write-out : tie.Need-array-write-out Inv-loop μ-loop
+array-write-out c = omega (arith, c .before .before .before .before .before .before .before .before .pre .0 .0 .high)
+
+add-bx : tie.Need-add-bx Inv-loop μ-loop
+add-bx c = omega (arith, c .before .before .before .before .before .before .before .before .pre .0 .0 .high)
+
+loop-less : tie.Need-loop-less Inv-loop μ-loop
+loop-less c = omega arith
+
+loop-again : tie.Need-loop-again Inv-loop μ-loop
+loop-again c =
+    let a = c .before .before .before .before .before .before .before .before .args in
+    let l = c .before .before .loop in
+    let f = classBy (a .rows .now) (a .indices .now) (a .noskip .now) (toZ w32 (ofZ w32 (a .base-q))) (a .map .now) (a .subclass .now) (a .done / 4) (a .g .h / 4) in
+    (omega arith, rw (l .inv .1, c .class-of .ensures) (rw (zero-add (l .bx)) at (sets-more (l .bx) (a .classes) 0 f)))
+
+returns : tie.Need-returns Inv-loop μ-loop
+returns c =
+    let s = c .before .before .before .before .before .before .before in
+    let a = s .args in
+    let l = c .before .loop in
+    let e : l .bx ≡ a .g .w / 4 = omega arith in
+    let q-is : toZ w32 (ofZ w32 (a .base-q)) ≡ a .base-q = toZ-ofZ (s .fits .base-q) in
+    let f : ℤ → ℕ → ℕ = λ q. classBy (a .rows .now) (a .indices .now) (a .noskip .now) q (a .map .now) (a .subclass .now) (a .done / 4) (a .g .h / 4) in
+    l .inv .1 ∙
+    (λ i. sets (a .classes) 0 (tab (e i) (f (q-is i)))) ∙
+    ap (sets (a .classes) 0)
+    (tab-cong (a .g .w / 4) (f (a .base-q))
+    (classAt (givenOf (a .g)) (classLent (a .noskip .now) (a .map .now) (a .subclass .now) (a .base-q)) (ring (a .rows .now) (a .indices .now) 0) (a .done))
+    (λ bx h. class-is (givenOf (a .g)) (a .rows .now) (a .indices .now) (a .noskip .now) (a .map .now) (a .subclass .now) (a .base-q) 0 (a .done) bx))
+
+pub classes-of-row-spec : {M : Type 1} → statement M
+classes-of-row-spec =
+    tie.close
+    (tie.spec
+    Inv-loop
+    μ-loop
+    loop-holds
+    class-of-requires
+    array-write-out
+    add-bx
+    loop-less
+    loop-again
+    returns)

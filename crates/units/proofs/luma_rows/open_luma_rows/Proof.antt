@@ -1,0 +1,72 @@
+-- `units::luma_rows::open_luma_rows` meets its contract. The loop's invariant: the rows before n are filled, behind the chroma rows as they were. Assumes nothing.
+use mathlib.Core.Path.{_≡_}
+use mathlib.Core.List.{_++_}
+use Prim.Native.Nat.{_-_, _≤_}
+use native.Mathlib.Omega.{arith}
+use lib.ListN.{take, replicate}
+use Rattle.definition.specs.Units.{chroma}
+use Rattle.model.specs.Rows.{firstRow}
+use Rattle.model.specs.Opening.{filledRows}
+use Rattle.model.specs.LumaRows.{lumaPadRow}
+use Rattle.units.specs.States.{givenOf}
+use Rattle.units.specs.Chroma.{lumaRowsLent}
+use Rattle.units.proofs.Behind.{front-size, behind-none, behind-more}
+use Rattle.units.proofs.luma_rows.open_luma_rows.Statement.{statement}
+use Rattle.units.proofs.luma_rows.open_luma_rows.Tie as tie
+
+abbrev Inv-loop : tie.InvT-loop
+Inv-loop g luma luma-top luma-bottom rows₀ n₀ rows n =
+    (n₀ ≤ n) × (n ≤ 4) × (rows ≡ take 380 rows₀ ++ filledRows 140 (firstRow chroma (givenOf g)) (lumaPadRow (givenOf g) (lumaRowsLent luma luma-top luma-bottom)) (replicate 700 0) n)
+
+abbrev μ-loop : tie.MeasureT-loop
+μ-loop g luma luma-top luma-bottom rows₀ n₀ rows n = 4 - n
+
+first-row-requires : tie.Need-first-row-requires Inv-loop μ-loop
+first-row-requires c κs = tt
+
+loop-holds : tie.Need-loop-holds Inv-loop μ-loop
+loop-holds c =
+    let s = c .before .before .before .before in
+    (omega arith, omega arith, behind-none _ _ _ (s .args .rows .now) (replicate 700 0) 380 (c .first-row .result) (s .pre .1) (omega arith))
+
+padded-luma-row-requires : tie.Need-padded-luma-row-requires Inv-loop μ-loop
+padded-luma-row-requires c κs = (c .before .before .before .before .before .before .pre .0, (omega arith, omega arith))
+
+put-luma-row-requires : tie.Need-put-luma-row-requires Inv-loop μ-loop
+put-luma-row-requires c κs = omega arith
+
+add-n : tie.Need-add-n Inv-loop μ-loop
+add-n c = omega arith
+
+loop-less : tie.Need-loop-less Inv-loop μ-loop
+loop-less c = omega arith
+
+loop-again : tie.Need-loop-again Inv-loop μ-loop
+loop-again c =
+    let i = c .before .before .before .before .loop in
+    let s = c .before .before .before .before .before .before .before .before .before in (
+      omega arith,
+      omega arith,
+      behind-more _ _ _ (s .args .rows .now) (replicate 700 0) 380 (i .n) (front-size (s .args .rows .now) 380 700 (s .pre .1) (omega arith)) (omega arith) (i .inv .2)
+          (c .before .before .padded-luma-row .ensures) (c .put-luma-row .ensures),
+    )
+
+returns : tie.Need-returns Inv-loop μ-loop
+returns c =
+    let e : c .before .loop .n ≡ 4 = omega arith in
+    rw e at (c .before .loop .inv .2)
+
+pub open-luma-rows-spec : {M : Type 1} → statement M
+open-luma-rows-spec =
+    tie.close
+    (tie.spec
+    Inv-loop
+    μ-loop
+    first-row-requires
+    loop-holds
+    padded-luma-row-requires
+    put-luma-row-requires
+    add-n
+    loop-less
+    loop-again
+    returns)

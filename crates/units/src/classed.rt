@@ -1,0 +1,570 @@
+// Classed units: the classes of a block row, and what an advance and an opening are made of.
+ghost use mathlib.Core.Path.{_≡_};
+ghost use mathlib.Core.Bool.{not, true};
+ghost use Prim.Native.Nat.{ℕ, _+_, _*_, _-_, _/_, _≤_, _<_};
+ghost use lib.Dec.{eqb, ltb};
+ghost use lib.ListN.{length, getD};
+ghost use lib.Seq.{sets};
+ghost use Rattle.definition.specs.Rows.{tab};
+ghost use Rattle.definition.specs.Units.{luma, user, pretrained, setSize};
+ghost use Rattle.definition.specs.Refusals.{unitStatus, badShape, firstPass, every};
+ghost use Rattle.definition.specs.ClassIndex.{classIndex};
+ghost use Rattle.class_index.specs.Answers.{blockFlat};
+ghost use Rattle.model.specs.Fine.{Sized};
+ghost use Rattle.units.specs.States.{operationOf, givenOf};
+ghost use Rattle.units.specs.Windows.{rowsLent, RowsLie, ring};
+ghost use Rattle.units.specs.Operations.{answer, Answered, classAt};
+ghost use Rattle.units.specs.Advances.{callOf};
+ghost use Rattle.units.specs.Openings.{openState, stateUnless};
+ghost use Rattle.units.specs.Classed.{classLent, classedLent, TookClassed};
+ghost use Rattle.units.specs.ClassedRows.{classedSizes, statusBy, classesAt, Fit, Sound, Admitted, Stepped};
+use crate::Advanced;
+use crate::Numbers;
+use crate::Opened;
+use crate::State;
+use crate::refusals::Sizes;
+
+// Whether a kept class is past the filters: `numbers` of them, `size` to a set.
+pub fn bad_kept(classes: &[u8; 16], numbers: usize, size: usize) -> bool
+    requires { ⌜ 0 < size ⌝ }
+    ensures { λ r. ⌜ r ≡ not (firstPass (λ c. ltb c (numbers / size)) 16 (now (classes .entry))) ⌝ }
+{
+    let n = numbers / size;
+    let mut k = 0;
+    while k < 16 {
+        if n <= wide(classes[k]) {
+            return true;
+        }
+        k += 1;
+    }
+    false
+}
+
+fn wide(x: u8) -> usize
+    ensures { λ r. ⌜ r ≡ x ⌝ }
+{
+    x as usize
+}
+
+// The class of the block in column bx, of block row `by` of `bh`.
+fn class_of(
+    rows: &[u8; 1080],
+    indices: &[usize; 10],
+    noskip: &[u16],
+    base_q: i32,
+    map: &[u8],
+    subclass: &[u8],
+    bx: usize,
+    by: usize,
+    bh: usize,
+) -> u8
+    requires { ⌜ (bx ≤ 15) × (by < bh) × (bh ≤ 16) × (bh ≤ length (now noskip)) ⌝ }
+    requires { ⌜ ((j : ℕ) → j < 10 → getD (now indices) j 0 ≤ 9) ⌝ }
+    requires { ⌜ (length (now map) ≡ 4096) × (every (λ m. ltb m (length (now subclass))) (now map) ≡ true) ⌝ }
+    ensures { λ r. ⌜ r ≡ getD (now (subclass .entry)) (getD (now (map .entry)) (classIndex (blockFlat (now (rows .entry)) (now (indices .entry)) bx) (now (noskip .entry)) «base_q» bx by bh) 0) 0 ⌝ }
+{
+    let ix = *indices;
+    let found = class_index::get_class_lut_idx_8bpc(rows, ix, noskip, base_q, bx, by, bh);
+    let index = found.index as usize;
+    let m = wide(map[index]);
+    subclass[m]
+}
+
+// The classes of the blocks of row `done`'s block row; those past the unit's width stay.
+pub fn classes_of_row(
+    g: Numbers,
+    done: usize,
+    rows: &[u8; 1080],
+    indices: &[usize; 10],
+    noskip: &[u16],
+    base_q: i32,
+    map: &[u8],
+    subclass: &[u8],
+    classes: [u8; 16],
+) -> [u8; 16]
+    requires { ⌜ Sized 64 (g .w) × Sized 64 (g .h) × (done < g .h) × (g .h / 4 ≤ length (now noskip)) ⌝ }
+    requires { ⌜ ((j : ℕ) → j < 10 → getD (now indices) j 0 ≤ 9) ⌝ }
+    requires { ⌜ (length (now map) ≡ 4096) × (every (λ m. ltb m (length (now subclass))) (now map) ≡ true) ⌝ }
+    ensures { λ r. ⌜ r ≡ sets classes 0 (tab (g .w / 4) (classAt (givenOf g) (classLent (now (noskip .entry)) (now (map .entry)) (now (subclass .entry)) «base_q») (ring (now (rows .entry)) (now (indices .entry)) 0) done)) ⌝ }
+{
+    let n = g.w / 4;
+    let by = done / 4;
+    let bh = g.h / 4;
+    let mut out = classes;
+    let mut bx = 0;
+    while bx < n {
+        out[bx] = class_of(rows, indices, noskip, base_q, map, subclass, bx, by, bh);
+        bx += 1;
+    }
+    out
+}
+
+// The newest row of the window, and at the start of a block row the tenth row too, which the features alone look at. The next slot is handed back.
+pub fn fetch_rows(
+    op: usize,
+    g: Numbers,
+    done: usize,
+    plane: &[u8],
+    left: &[u8],
+    top: &[u8],
+    bottom: &[u8],
+    rows: &mut [u8; 1080],
+    indices: &mut [usize; 10],
+    next: usize,
+) -> usize
+    requires { ⌜ (1 ≤ op) × (op ≤ 3) ⌝ }
+    requires { ⌜ RowsLie (operationOf op) (givenOf g) (length (now plane)) (length (now left)) (length (now top)) (length (now bottom)) ⌝ }
+    requires { ⌜ (done < g .h) × (next ≤ 8) ⌝ }
+    ensures { λ r. ⌜ TookClassed (operationOf op) (givenOf g) (rowsLent (now (left .entry)) (now (top .entry)) (now (bottom .entry))) (now (plane .entry)) done (ring (now (rows .entry)) (now (indices .entry)) next) (ring (now (rows .exit)) (now (indices .exit)) r) ⌝ }
+{
+    let r = crate::rows::fetch_row(op, g, done, plane, left, top, bottom, rows, indices, next);
+    if done % 4 != 0 {
+        return r;
+    }
+    let row = crate::rows::padded_row(op, g, plane, left, top, bottom, done + 9);
+    crate::rows::put_row(rows, 9, row);
+    indices[9] = 9;
+    r
+}
+
+// The table for an opening.
+pub fn unit_status(
+    op: usize,
+    g: Numbers,
+    plane: usize,
+    left: usize,
+    top: usize,
+    bottom: usize,
+    filters: usize,
+    map: &[u8],
+    subclass: &[u8],
+    noskip: usize,
+    skip: usize,
+) -> u8
+    ensures { λ r. ⌜ r ≡ unitStatus (operationOf op) (givenOf g) (classedSizes (operationOf op) plane left top bottom filters (now (map .entry)) (now (subclass .entry)) noskip skip) ⌝ }
+{
+    let z = Sizes {
+        plane,
+        left,
+        top,
+        bottom,
+        luma_plane: 0,
+        luma_top: 0,
+        luma_bottom: 0,
+        skip,
+        noskip,
+        filters,
+        bad_map: crate::refusals::bad_map(op, map, subclass, filters),
+    };
+    crate::refusals::unit_status(op, g, z)
+}
+
+// Of another operation, rows done over h, a row index over 9 or a next row over 8.
+fn bad_shape(op: usize, s: State) -> bool
+    ensures { λ r. ⌜ r ≡ badShape luma (not (eqb (s .op) op)) (s .done) (s .numbers .h) (s .indices) (s .next) ⌝ }
+{
+    let indices = s.indices;
+    if s.op != op {
+        return true;
+    }
+    if s.numbers.h < s.done {
+        return true;
+    }
+    if !bounds::indices_up_to(&indices, 9) {
+        return true;
+    }
+    8 < s.next
+}
+
+// The table for an advance: the state's shape and the kept classes come first.
+pub fn status(
+    op: usize,
+    s: State,
+    plane: usize,
+    left: usize,
+    top: usize,
+    bottom: usize,
+    filters: usize,
+    map: &[u8],
+    subclass: &[u8],
+    noskip: usize,
+    skip: usize,
+) -> u8
+    requires { ⌜ (2 ≤ op) × (op ≤ 3) ⌝ }
+    ensures { λ r. ⌜ r ≡ statusBy (operationOf op) s (classedSizes (operationOf op) plane left top bottom filters (now (map .entry)) (now (subclass .entry)) noskip skip) ⌝ }
+{
+    if bad_shape(op, s) {
+        return 13;
+    }
+    let classes = s.classes;
+    let size = crate::refusals::set_size(op);
+    if bad_kept(&classes, filters, size) {
+        return 13;
+    }
+    unit_status(
+        op,
+        s.numbers,
+        plane,
+        left,
+        top,
+        bottom,
+        filters,
+        map,
+        subclass,
+        noskip,
+        skip,
+    )
+}
+
+// What a row leaves for the next one, besides the rows and their indices.
+pub struct Turn {
+    pub next: usize,
+    pub classes: [u8; 16],
+}
+
+// The classes of row `done`.
+fn classes_now(
+    g: Numbers,
+    done: usize,
+    rows: &[u8; 1080],
+    indices: &[usize; 10],
+    noskip: &[u16],
+    base_q: i32,
+    map: &[u8],
+    subclass: &[u8],
+    classes: [u8; 16],
+) -> [u8; 16]
+    requires { ⌜ Sized 64 (g .w) × Sized 64 (g .h) × (done < g .h) × (g .h / 4 ≤ length (now noskip)) ⌝ }
+    requires { ⌜ ((j : ℕ) → j < 10 → getD (now indices) j 0 ≤ 9) ⌝ }
+    requires { ⌜ (length (now map) ≡ 4096) × (every (λ m. ltb m (length (now subclass))) (now map) ≡ true) ⌝ }
+    ensures { λ r. ⌜ r ≡ classesAt g (classLent (now (noskip .entry)) (now (map .entry)) (now (subclass .entry)) «base_q») done classes (ring (now (rows .entry)) (now (indices .entry)) 0) ⌝ }
+{
+    if done % 4 != 0 {
+        return classes;
+    }
+    classes_of_row(
+        g,
+        done,
+        rows,
+        indices,
+        noskip,
+        base_q,
+        map,
+        subclass,
+        classes,
+    )
+}
+
+// What a row is restored from: the rows of its window, and the classes of its blocks.
+fn taken(
+    op: usize,
+    g: Numbers,
+    done: usize,
+    plane: &[u8],
+    left: &[u8],
+    top: &[u8],
+    bottom: &[u8],
+    map: &[u8],
+    subclass: &[u8],
+    noskip: &[u16],
+    base_q: i32,
+    rows: &mut [u8; 1080],
+    indices: &mut [usize; 10],
+    next: usize,
+    classes: [u8; 16],
+) -> Turn
+    requires { ⌜ (1 ≤ op) × (op ≤ 3) ⌝ }
+    requires { ⌜ RowsLie (operationOf op) (givenOf g) (length (now plane)) (length (now left)) (length (now top)) (length (now bottom)) ⌝ }
+    requires { ⌜ (done < g .h) × (next ≤ 8) × (g .h / 4 ≤ length (now noskip)) ⌝ }
+    requires { ⌜ ((j : ℕ) → j < 10 → getD (now indices) j 0 ≤ 9) ⌝ }
+    requires { ⌜ (length (now map) ≡ 4096) × (every (λ m. ltb m (length (now subclass))) (now map) ≡ true) ⌝ }
+    ensures { λ r. ⌜ TookClassed (operationOf op) (givenOf g) (rowsLent (now (left .entry)) (now (top .entry)) (now (bottom .entry))) (now (plane .entry)) done (ring (now (rows .entry)) (now (indices .entry)) next) (ring (now (rows .exit)) (now (indices .exit)) (r .next)) × (r .classes ≡ classesAt g (classLent (now (noskip .entry)) (now (map .entry)) (now (subclass .entry)) «base_q») done classes (ring (now (rows .exit)) (now (indices .exit)) 0)) ⌝ }
+{
+    let turned = fetch_rows(op, g, done, plane, left, top, bottom, rows, indices, next);
+    let now = classes_now(
+        g,
+        done,
+        rows,
+        indices,
+        noskip,
+        base_q,
+        map,
+        subclass,
+        classes,
+    );
+    Turn {
+        next: turned,
+        classes: now,
+    }
+}
+
+// The state of a unit that is not declined, before its first row.
+fn first_state(op: usize, g: Numbers, p: &[u8], left: &[u8], top: &[u8], bottom: &[u8]) -> State
+    requires { ⌜ (1 ≤ op) × (op ≤ 3) ⌝ }
+    requires { ⌜ RowsLie (operationOf op) (givenOf g) (length (now p)) (length (now left)) (length (now top)) (length (now bottom)) ⌝ }
+    ensures { λ r. ⌜ r ≡ openState (operationOf op) g (rowsLent (now (left .entry)) (now (top .entry)) (now (bottom .entry))) (now (p .entry)) ⌝ }
+{
+    let rows = crate::rows::open_rows(op, g, p, left, top, bottom);
+    let indices = crate::rows::open_indices(op, g);
+    State {
+        op,
+        numbers: g,
+        done: 0,
+        next: 8,
+        classes: [0u8; 16],
+        indices,
+        rows,
+    }
+}
+
+// What an opening hands back, by its status.
+pub fn open(
+    op: usize,
+    g: Numbers,
+    status: u8,
+    p: &[u8],
+    left: &[u8],
+    top: &[u8],
+    bottom: &[u8],
+) -> Opened
+    requires { ⌜ (1 ≤ op) × (op ≤ 3) ⌝ }
+    requires { ⌜ (status ≡ 0 → RowsLie (operationOf op) (givenOf g) (length (now p)) (length (now left)) (length (now top)) (length (now bottom))) ⌝ }
+    ensures { λ r. ⌜ (r .status ≡ status) × (r .state ≡ stateUnless status (openState (operationOf op) g (rowsLent (now (left .entry)) (now (top .entry)) (now (bottom .entry))) (now (p .entry)))) ⌝ }
+{
+    if status != 0 {
+        return Opened {
+            status,
+            state: crate::luma::none(),
+        };
+    }
+    Opened {
+        status,
+        state: first_state(op, g, p, left, top, bottom),
+    }
+}
+
+// One row of a unit with user sets: what it is restored from, the row restored, the window moved on.
+fn row_n(
+    g: Numbers,
+    done: usize,
+    p: &mut [u8],
+    left: &[u8],
+    top: &[u8],
+    bottom: &[u8],
+    filters: &[i8],
+    map: &[u8],
+    subclass: &[u8],
+    noskip: &[u16],
+    base_q: i32,
+    skip: &[u16],
+    rows: &mut [u8; 1080],
+    indices: &mut [usize; 10],
+    next: usize,
+    classes: [u8; 16],
+) -> Turn
+    requires { ⌜ Fit user g (classedLent (now left) (now top) (now bottom) (now filters) (now map) (now subclass) (now noskip) (now skip) «base_q») (length (now p)) ⌝ }
+    requires { ⌜ (done < g .h) × Sound (length (now filters) / setSize user) classes (now indices) next ⌝ }
+    ensures { λ r. ⌜ Stepped user g done (classedLent (now (left .entry)) (now (top .entry)) (now (bottom .entry)) (now (filters .entry)) (now (map .entry)) (now (subclass .entry)) (now (noskip .entry)) (now (skip .entry)) «base_q») (now (p .entry)) classes (ring (now (rows .entry)) (now (indices .entry)) next) (now (p .exit)) (r .classes) (ring (now (rows .exit)) (now (indices .exit)) (r .next)) ⌝ }
+{
+    let turn = taken(
+        2,
+        g,
+        done,
+        p,
+        left,
+        top,
+        bottom,
+        map,
+        subclass,
+        noskip,
+        base_q,
+        rows,
+        indices,
+        next,
+        classes,
+    );
+    let classes = turn.classes;
+    let mask = crate::luma::mask_of_row(skip, done);
+    let at = g.off + done * g.stride;
+    crate::restore::restore_n(p, at, g.w, rows, indices, filters, &classes, mask);
+    crate::rows::slide(indices, 8);
+    turn
+}
+
+// The rows of an advance that is not refused.
+pub fn advanced_n(
+    s: State,
+    count: usize,
+    p: &mut [u8],
+    left: &[u8],
+    top: &[u8],
+    bottom: &[u8],
+    filters: &[i8],
+    map: &[u8],
+    subclass: &[u8],
+    noskip: &[u16],
+    base_q: i32,
+    skip: &[u16],
+) -> Advanced
+    requires { ⌜ Admitted user count s (classedLent (now left) (now top) (now bottom) (now filters) (now map) (now subclass) (now noskip) (now skip) «base_q») (now p) ⌝ }
+    ensures { λ r. ⌜ Answered r (now (p .exit)) (answer (callOf user count (classedLent (now (left .entry)) (now (top .entry)) (now (bottom .entry)) (now (filters .entry)) (now (map .entry)) (now (subclass .entry)) (now (noskip .entry)) (now (skip .entry)) «base_q»)) s (now (p .entry))) ⌝ }
+{
+    let g = s.numbers;
+    let start = s.done;
+    let n = crate::luma::least(count, g.h - start);
+    let pieces = crate::luma::pieces_of_rows(skip, g.w / 4, start, n);
+    let mut rows = s.rows;
+    let mut indices = s.indices;
+    let mut classes = s.classes;
+    let mut next = s.next;
+    let mut i = 0;
+    while i < n {
+        let turn = row_n(
+            g,
+            start + i,
+            p,
+            left,
+            top,
+            bottom,
+            filters,
+            map,
+            subclass,
+            noskip,
+            base_q,
+            skip,
+            &mut rows,
+            &mut indices,
+            next,
+            classes,
+        );
+        next = turn.next;
+        classes = turn.classes;
+        i += 1;
+    }
+    Advanced {
+        status: 0,
+        pieces,
+        state: State {
+            op: s.op,
+            numbers: g,
+            done: start + n,
+            next,
+            classes,
+            indices,
+            rows,
+        },
+    }
+}
+
+// One row of a unit with pretrained sets: what it is restored from, the row restored, the window moved on.
+fn row_p(
+    g: Numbers,
+    done: usize,
+    p: &mut [u8],
+    left: &[u8],
+    top: &[u8],
+    bottom: &[u8],
+    filters: &[i16],
+    map: &[u8],
+    subclass: &[u8],
+    noskip: &[u16],
+    base_q: i32,
+    skip: &[u16],
+    rows: &mut [u8; 1080],
+    indices: &mut [usize; 10],
+    next: usize,
+    classes: [u8; 16],
+) -> Turn
+    requires { ⌜ Fit pretrained g (classedLent (now left) (now top) (now bottom) (now filters) (now map) (now subclass) (now noskip) (now skip) «base_q») (length (now p)) ⌝ }
+    requires { ⌜ (done < g .h) × Sound (length (now filters) / setSize pretrained) classes (now indices) next ⌝ }
+    ensures { λ r. ⌜ Stepped pretrained g done (classedLent (now (left .entry)) (now (top .entry)) (now (bottom .entry)) (now (filters .entry)) (now (map .entry)) (now (subclass .entry)) (now (noskip .entry)) (now (skip .entry)) «base_q») (now (p .entry)) classes (ring (now (rows .entry)) (now (indices .entry)) next) (now (p .exit)) (r .classes) (ring (now (rows .exit)) (now (indices .exit)) (r .next)) ⌝ }
+{
+    let turn = taken(
+        3,
+        g,
+        done,
+        p,
+        left,
+        top,
+        bottom,
+        map,
+        subclass,
+        noskip,
+        base_q,
+        rows,
+        indices,
+        next,
+        classes,
+    );
+    let classes = turn.classes;
+    let mask = crate::luma::mask_of_row(skip, done);
+    let at = g.off + done * g.stride;
+    crate::restore::restore_p(p, at, g.w, rows, indices, filters, &classes, mask);
+    crate::rows::slide(indices, 8);
+    turn
+}
+
+// The rows of an advance that is not refused.
+pub fn advanced_p(
+    s: State,
+    count: usize,
+    p: &mut [u8],
+    left: &[u8],
+    top: &[u8],
+    bottom: &[u8],
+    filters: &[i16],
+    map: &[u8],
+    subclass: &[u8],
+    noskip: &[u16],
+    base_q: i32,
+    skip: &[u16],
+) -> Advanced
+    requires { ⌜ Admitted pretrained count s (classedLent (now left) (now top) (now bottom) (now filters) (now map) (now subclass) (now noskip) (now skip) «base_q») (now p) ⌝ }
+    ensures { λ r. ⌜ Answered r (now (p .exit)) (answer (callOf pretrained count (classedLent (now (left .entry)) (now (top .entry)) (now (bottom .entry)) (now (filters .entry)) (now (map .entry)) (now (subclass .entry)) (now (noskip .entry)) (now (skip .entry)) «base_q»)) s (now (p .entry))) ⌝ }
+{
+    let g = s.numbers;
+    let start = s.done;
+    let n = crate::luma::least(count, g.h - start);
+    let pieces = crate::luma::pieces_of_rows(skip, g.w / 4, start, n);
+    let mut rows = s.rows;
+    let mut indices = s.indices;
+    let mut classes = s.classes;
+    let mut next = s.next;
+    let mut i = 0;
+    while i < n {
+        let turn = row_p(
+            g,
+            start + i,
+            p,
+            left,
+            top,
+            bottom,
+            filters,
+            map,
+            subclass,
+            noskip,
+            base_q,
+            skip,
+            &mut rows,
+            &mut indices,
+            next,
+            classes,
+        );
+        next = turn.next;
+        classes = turn.classes;
+        i += 1;
+    }
+    Advanced {
+        status: 0,
+        pieces,
+        state: State {
+            op: s.op,
+            numbers: g,
+            done: start + n,
+            next,
+            classes,
+            indices,
+            rows,
+        },
+    }
+}
