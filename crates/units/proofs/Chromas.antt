@@ -23,7 +23,6 @@ use Rattle.units.specs.Windows.{ring, rowsLent}
 use Rattle.units.specs.Operations.{Answered, answer, moved}
 use Rattle.units.specs.Advances.{callOf, Gone}
 use Rattle.units.specs.Openings.{openState, noState, stateUnless, Begun}
-use Rattle.units.specs.Luma as Luma
 use Rattle.units.specs.Chroma.{chromaLent, lumaRowsLent}
 use Rattle.units.specs.ChromaRows.{chromaSizes, chromaStatus, Stepped}
 use Rattle.units.proofs.Advances as Advances
@@ -85,12 +84,8 @@ module _ (left top bottom : List ℕ) (filter : List ℤ) (lumaPlane lumaTop lum
     unless-some zero s ne = absurd (ne refl)
     unless-some (suc st) s ne = refl
 
-    none-same : Luma.noState ≡ noState
-    unfolding Luma.noState noState
-    none-same = refl
-
-    pub begun-none : {st : ℕ} {s : State} → st ≡ status → (st ≡ 0 → ⊥) → s ≡ Luma.noState → Begun chroma (record { status = st; state = s }) n lent p
-    begun-none e ne z = record { status = e; state = z ∙ (none-same ∙ sym (unless-some status (openState chroma n lent p) (λ h. ne (e ∙ h)))) }
+    pub begun-none : {st : ℕ} {s : State} → st ≡ status → (st ≡ 0 → ⊥) → s ≡ noState → Begun chroma (record { status = st; state = s }) n lent p
+    begun-none e ne z = record { status = e; state = z ∙ sym (unless-some status (openState chroma n lent p) (λ h. ne (e ∙ h))) }
 
     pub begun-first : {s : State} → status ≡ 0 → s ≡ openState chroma n lent p → Begun chroma (record { status = 0; state = s }) n lent p
     begun-first q z = record { status = sym q; state = z ∙ rw q }

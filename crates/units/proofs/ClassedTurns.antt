@@ -30,7 +30,6 @@ use Rattle.units.specs.Windows.{ring, rowsLent}
 use Rattle.units.specs.Cells.{userCell, pretrainedCell}
 use Rattle.units.specs.Operations.{numberOf, Answered, answer, statusOf, badState, moved, begins, withTenth, classAt, took, tookClassed, classesNow, classedState, userPlane, pretrainedPlane, painted, stepOf}
 use Rattle.units.specs.Openings.{Begun, openState, openStatus, openTen, openRings, stateUnless, noState}
-use Rattle.units.specs.Luma as Luma
 use Rattle.units.specs.Advances.{callOf, Gone}
 use Rattle.units.specs.Classed.{classLent, classedLent, TookClassed}
 use Rattle.units.specs.ClassedRows.{classedSizes, statusBy, Fit, Sound, Admitted, classesAt, stateAt, Stepped}
@@ -305,8 +304,7 @@ first-is (suc (suc zero)) a b g l p e f = rw (e, f)
 first-is (suc (suc (suc zero))) a b g l p e f = rw (e, f)
 first-is (suc (suc (suc (suc n)))) a b g l p e f = absurd (omega arith)
 
-pub none-unless : (st : ℕ) (s : State) → (st ≡ 0 → ⊥) → Luma.noState ≡ stateUnless st s
-unfolding Luma.noState noState
+pub none-unless : (st : ℕ) (s : State) → (st ≡ 0 → ⊥) → noState ≡ stateUnless st s
 none-unless zero s ne = absurd (ne refl)
 none-unless (suc st) s ne = refl
 

@@ -28,7 +28,10 @@ use Rattle.units.specs.States.{givenOf}
 use Rattle.units.specs.Windows.{ring, rowsLent, Fetched}
 use Rattle.units.specs.Cells.{lumaCell}
 use Rattle.units.specs.Operations.{Answered, answer, statusOf, badState, lumaStep, lumaState, lumaPlane, took, moved}
-use Rattle.units.specs.Luma.{lumaLent, lumaCall, lumaSizes, statusBy, noState, openState, stateUnless, Begun, tookRow, paintedRow, Stepped, Turned}
+use Rattle.units.specs.declared.Opened.{Opened}
+use Rattle.units.specs.Advances.{callOf}
+use Rattle.units.specs.Openings.{openStatus, openState, stateUnless, Begun}
+use Rattle.units.specs.Luma.{lumaLent, lumaSizes, statusBy, tookRow, paintedRow, Stepped, Turned}
 
 -- THE FILTER, number by number
 pub copied-more : (f filter : List ℤ) (k : ℕ) → k < length f → ((j : ℕ) → j < k → getD f j (pos 0) ≡ getD filter j (pos 0)) →
@@ -76,11 +79,6 @@ stepped g done l filter mask p rows idx next {rows′ = rows′} {idx′ = idx�
       next = fetched-next f n;
     }
 
--- a state that is declined is the state of zeros
-unless-some : (st : ℕ) (s : State) → (st ≡ 0 → ⊥) → stateUnless st s ≡ noState
-unless-some zero s ne = absurd (ne refl)
-unless-some (suc st) s ne = refl
-
 -- WHAT IS LENT: padding looks at the left list and the saved borders alone
 module _ (left top bottom : List ℕ) (filter : List ℤ) (skip : List ℕ) where
   pub pad-lent : (g : Given) (p : List ℕ) (R : ℕ) → padRow luma g (rowsLent left top bottom) p R ≡ padRow luma g (lumaLent left top bottom filter skip) p R
@@ -92,7 +90,7 @@ module _ (left top bottom : List ℕ) (filter : List ℤ) (skip : List ℕ) wher
   filled-lent g p blank zero = refl
   filled-lent g p blank (suc n) = rw (filled-lent g p blank n, pad-lent g p n)
 
-  pub open-lent : (n : Numbers) (p : List ℕ) → openState n (rowsLent left top bottom) p ≡ openState n (lumaLent left top bottom filter skip) p
+  pub open-lent : (n : Numbers) (p : List ℕ) → openState luma n (rowsLent left top bottom) p ≡ openState luma n (lumaLent left top bottom filter skip) p
   unfolding openState openRing
   open-lent n p = rw (filled-lent (givenOf n) p (replicate 1080 0) 8)
 
@@ -107,19 +105,17 @@ module _ (left top bottom : List ℕ) (filter : List ℤ) (skip : List ℕ) wher
     abbrev status : Numbers → ℕ
     status g = unitStatus luma (givenOf g) (lumaSizes (length p) (length left) (length top) (length bottom) (length filter) (length skip))
 
-    pub begun-none : {g : Numbers} {st : ℕ} {s : State} → g ≡ n → st ≡ status g → (st ≡ 0 → ⊥) → s ≡ noState → Begun (record { status = st; state = s }) n lent p
-    begun-none d e ne z =
-        let q : _ ≡ status n = rw d at e in
-        record { status = q; state = z ∙ sym (unless-some (status n) (openState n lent p) (λ h. ne (q ∙ h))) }
-
-    pub begun-first : {g : Numbers} {s : State} → g ≡ n → status g ≡ 0 → s ≡ openState g lenders p → Begun (record { status = 0; state = s }) n lent p
-    begun-first d e z =
-        let q : status n ≡ 0 = rw d at e in
-        record { status = sym q; state = (rw d at z) ∙ (open-lent n p ∙ rw q) }
+    pub begun : {g : Numbers} {st : ℕ} {r : Opened} → g ≡ n → st ≡ status g → (r .status ≡ st) × (r .state ≡ stateUnless st (openState luma g lenders p)) → Begun luma r n lent p
+    begun d e o =
+        let f : _ ≡ openStatus luma n lent p = rw d at e in
+        record {
+          status = o .0 ∙ f;
+          state = o .1 ∙ ((λ i. stateUnless (f i) (openState luma (d i) lenders p)) ∙ ap (stateUnless (openStatus luma n lent p)) (open-lent n p));
+        }
 
   -- THE STATUS over what is lent is that over the lengths
   pub status-lent : (count : ℕ) (s : State) (p : List ℕ) →
-      statusOf (lumaCall count lent) s p ≡ statusBy s (lumaSizes (length p) (length left) (length top) (length bottom) (length filter) (length skip))
+      statusOf (callOf luma count lent) s p ≡ statusBy s (lumaSizes (length p) (length left) (length top) (length bottom) (length filter) (length skip))
   unfolding statusOf statusBy badState
   status-lent count s p = rw (or-false (badShape luma (not (eqb (s .op) 1)) (s .done) (s .numbers .h) (s .indices) (s .next)))
 
@@ -172,16 +168,16 @@ module _ (left top bottom : List ℕ) (filter : List ℤ) (skip : List ℕ) wher
 
     pub served : (count n i pieces : ℕ) {p rows idx : List ℕ} {next : ℕ} → statusBy s sizes ≡ 0 → n ≡ min count (s .numbers .h - s .done) → i ≡ n →
         pieces ≡ piecesOf skip (s .numbers .w / 4) (s .done) n → Turned s p₀ lent i p rows idx next →
-        Answered (record { status = 0; pieces = pieces; state = moved s (s .done + n) (s .classes) (ring rows idx next) }) p (answer (lumaCall count lent) s p₀)
+        Answered (record { status = 0; pieces = pieces; state = moved s (s .done + n) (s .classes) (ring rows idx next) }) p (answer (callOf luma count lent) s p₀)
     unfolding advanced
     served count n i pieces z en ei ep t =
-        let e : statusOf (lumaCall count lent) s p₀ ≡ 0 = status-lent count s p₀ ∙ z in
+        let e : statusOf (callOf luma count lent) s p₀ ≡ 0 = status-lent count s p₀ ∙ z in
         let w : Turned s p₀ lent n _ _ _ _ = rw ei at t in
         rw (e, ← en) (record { status = refl; pieces = ep; state = w .state; plane = w .plane })
 
-    pub declined : (count st : ℕ) → st ≡ statusBy s sizes → (st ≡ 0 → ⊥) → Answered (record { status = st; pieces = 0; state = s }) p₀ (answer (lumaCall count lent) s p₀)
+    pub declined : (count st : ℕ) → st ≡ statusBy s sizes → (st ≡ 0 → ⊥) → Answered (record { status = st; pieces = 0; state = s }) p₀ (answer (callOf luma count lent) s p₀)
     unfolding advanced
-    declined count st e ne = go (statusOf (lumaCall count lent) s p₀) _ (e ∙ sym (status-lent count s p₀))
+    declined count st e ne = go (statusOf (callOf luma count lent) s p₀) _ (e ∙ sym (status-lent count s p₀))
       where
         go : (n : ℕ) (o : Out State) → st ≡ n →
             Answered (record { status = st; pieces = 0; state = s }) p₀ (pickOut n o (record { status = n; pieces = 0; state = s; plane = p₀ }))

@@ -44,9 +44,6 @@ lumaLent left top bottom filter skip =
       q = pos 0;
     }
 
-abbrev pub lumaCall : ℕ → Lent → Call
-lumaCall count l = record { op = luma; count = count; lent = l }
-
 -- the numbers that a luma unit is opened with: what it does not use is 0
 abbrev pub numbersY : ℕ → ℕ → ℕ → ℕ → ℕ → ℕ → ℕ → Numbers
 numbersY w h edges stride off topOff bottomOff =
@@ -99,43 +96,6 @@ pub record Admitted (s : State) (plane left top bottom filters skip : ℕ) : Typ
   pub filter : filters ≡ 16
   pub mask : s .numbers .h ≤ skip
 
--- THE OPENING
-unfoldable pub openState : Numbers → Lent → List ℕ → State
-openState n l p =
-    record {
-      op = 1;
-      numbers = n;
-      done = 0;
-      next = 8;
-      classes = replicate 16 0;
-      indices = openRing luma (givenOf n) l p (replicate 1080 0) (0 ∷ 0 ∷ []) .idx;
-      rows = openRing luma (givenOf n) l p (replicate 1080 0) (0 ∷ 0 ∷ []) .slots;
-    }
-
--- the state of zeros, of no unit
-unfoldable pub noState : State
-noState =
-    record {
-      op = 0;
-      numbers = numbersY 0 0 0 0 0 0 0;
-      done = 0;
-      next = 0;
-      classes = replicate 16 0;
-      indices = replicate 10 0;
-      rows = replicate 1080 0;
-    }
-
-abbrev pub openStatus : Numbers → Lent → List ℕ → ℕ
-openStatus n l p = unitStatus luma (givenOf n) (sizesOf luma l p)
-
-abbrev pub stateUnless : ℕ → State → State
-stateUnless zero s = s
-stateUnless (suc status) s = noState
-
-pub record Begun (r : Opened) (n : Numbers) (l : Lent) (p : List ℕ) : Type 0 where
-  pub status : r .status ≡ openStatus n l p
-  pub state : r .state ≡ stateUnless (openStatus n l p) (openState n l p)
-
 -- ONE ROW
 module _ (g : Numbers) (done : ℕ) (l : Lent) (filter : List ℤ) (mask : ℕ) (p : List ℕ) (old : Ring) where
   unfoldable pub tookRow : Ring
@@ -159,15 +119,3 @@ pub record Turned (s : State) (p₀ : List ℕ) (l : Lent) (i : ℕ) (p rows ind
   pub size : length p ≡ length p₀
   pub low : (j : ℕ) → getD indices j 0 ≤ 9
   pub slot : next ≤ 8
-
--- THE WHOLE UNIT: where it is not declined each sample of the rectangle is the final one, and every other byte is as it was
-pub record Final (n : Numbers) (l : Lent) (p q : List ℕ) : Type 0 where
-  pub size : length q ≡ length p
-  pub here : (y x : ℕ) → y < n .h → x < n .w → getD q (n .off + y * n .stride + x) 0 ≡ finalSample (givenOf n) l p luma y x
-  pub other : (i : ℕ) → ((y x : ℕ) → y < n .h → x < n .w → i ≢ n .off + y * n .stride + x) → getD q i 0 ≡ getD p i 0
-
-pub record Whole (r : Restored) (n : Numbers) (l : Lent) (p q : List ℕ) : Type 0 where
-  pub status : r .status ≡ openStatus n l p
-  pub pieces : openStatus n l p ≡ 0 → r .pieces ≡ piecesOf (l .skip) (n .w / side) 0 (n .h)
-  pub plane : openStatus n l p ≡ 0 → Final n l p q
-  pub none : openStatus n l p ≢ 0 → (r .pieces ≡ 0) × (q ≡ p)

@@ -34,8 +34,9 @@ use Rattle.units.specs.declared.State.{State}
 use Rattle.units.specs.States.{givenOf}
 use Rattle.units.specs.Cells.{lumaCell}
 use Rattle.units.specs.Operations.{Call, units, answer, statusOf, badState, took, lumaState, lumaPlane}
-use Rattle.units.specs.Luma.{lumaCall, openState, openStatus, Whole}
-use Rattle.units.specs.declared.Restored.{Restored}
+use Rattle.units.specs.Openings.{openState, openStatus}
+use Rattle.units.specs.Advances.{callOf}
+use Rattle.units.specs.Wholes.{frameOf, Histories}
 
 -- the slot of row R of nine
 abbrev pub slot : ℕ → ℕ
@@ -71,26 +72,7 @@ zeros-low zero = zero-le
 zeros-low (suc zero) = zero-le
 zeros-low (suc (suc j)) = zero-le
 
--- the unit that was opened
-abbrev pub lumaFrame : Numbers → Lent → List ℕ → Frame State Call (Unit {0})
-lumaFrame n l p =
-    record {
-      own = λ a k. lumaCall k l;
-      ok = λ a. true;
-      w = n .w;
-      h = n .h;
-      off = n .off;
-      stride = n .stride;
-      first = openState n l p;
-      plane = p;
-      final = λ a y x. finalSample (givenOf n) l p luma y x;
-      pieces = λ a k m. piecesOf (l .skip) (n .w / side) k m;
-    }
-
-abbrev pub lumaUnit : Numbers → Lent → List ℕ → Opened State Call (Unit {0})
-lumaUnit n l p = unitOf units (lumaFrame n l p)
-
-module _ (n : Numbers) (l : Lent) (p₀ : List ℕ) (f : openStatus n l p₀ ≡ 0) where
+module _ (n : Numbers) (l : Lent) (p₀ : List ℕ) (f : openStatus luma n l p₀ ≡ 0) where
   pub good : Fine luma (givenOf n) (sizesOf luma l p₀)
   good = fine luma (givenOf n) (sizesOf luma l p₀) f
 
@@ -110,7 +92,7 @@ module _ (n : Numbers) (l : Lent) (p₀ : List ℕ) (f : openStatus n l p₀ ≡
       within k h = omega arith
 
   -- the checks let a state pass that was reached
-  admits : (c k : ℕ) (m : Ring) (p : List ℕ) → rows .At k m → k ≤ n .h → length p ≡ length p₀ → statusOf (lumaCall c l) (there k m) p ≡ 0
+  admits : (c k : ℕ) (m : Ring) (p : List ℕ) → rows .At k m → k ≤ n .h → length p ≡ length p₀ → statusOf (callOf luma c l) (there k m) p ≡ 0
   unfolding statusOf badState
   admits c k m p a h e =
       let i : indicesUpTo 9 (m .idx) ≡ true = pass-all (λ j. leb j 9) (m .idx) 10 (λ j hj. le-leb (getD (m .idx) j 0) 9 (a .holds .bounded j)) in
@@ -130,7 +112,7 @@ module _ (n : Numbers) (l : Lent) (p₀ : List ℕ) (f : openStatus n l p₀ ≡
       (pad-view luma (givenOf n) l p₀ (good .wide .high) (omega arith) y x h)
       (λ k m. let z : k ≡ 16 * 0 + k = omega arith in ap (λ (i : ℕ). getD (l .filters) i (pos 0)) z)))
 
-  pub luma-shown : Shown units (lumaFrame n l p₀) rows (λ a. lumaSeen l) there
+  pub luma-shown : Shown units (frameOf luma n l p₀) rows (λ a. lumaSeen l) there
   unfolding openState openRing lumaState lumaPlane took
   luma-shown =
       record {
@@ -161,34 +143,5 @@ module _ (n : Numbers) (l : Lent) (p₀ : List ℕ) (f : openStatus n l p₀ ≡
       }
 
   -- DEMAND 3
-  pub luma-history : (H : History Call (Unit {0})) → Valid (lumaUnit n l p₀) H → After (lumaUnit n l p₀) H
-  luma-history = theorem units (lumaFrame n l p₀) rows (λ a. lumaSeen l) there luma-shown
-
-  -- THE WHOLE UNIT: demand 2, from the theorem at the history of one advance by all rows
-  all-rows : min (n .h) (0 + n .h) ≡ n .h
-  all-rows = omega arith
-
-  none-yet : min (n .h) 0 ≡ 0
-  none-yet = omega arith
-
-  pub whole-of : (r : Restored) (q : List ℕ) → r .status ≡ answer (lumaCall (n .h) l) (openState n l p₀) p₀ .status →
-      r .pieces ≡ answer (lumaCall (n .h) l) (openState n l p₀) p₀ .pieces → q ≡ answer (lumaCall (n .h) l) (openState n l p₀) p₀ .plane → Whole r n l p₀ q
-  whole-of r q es ep eq =
-      let before = luma-history opened tt in
-      let after = luma-history (opened ▷ advance tt (n .h)) (tt, refl) in
-      let rows-before : n .h - 0 ≡ n .h = omega arith in
-      record {
-        status = es ∙ (before .status tt (n .h) refl ∙ sym f);
-        pieces = λ z. ep ∙ (before .pieces tt (n .h) refl ∙ rw (none-yet, all-rows, rows-before));
-        plane = λ z.
-            rw eq
-            (record {
-              size = after .size;
-              here = λ y x hy hx. after .here y x (rw all-rows hy) hx ∙ fresh y x;
-              other = λ i h. after .other i (λ y x lo hi hx. h y x (rw all-rows at hi) hx);
-            });
-        none = λ z. absurd (z f);
-      }
-    where
-      fresh : (y x : ℕ) → last (lumaUnit n l p₀) (opened ▷ advance tt (n .h)) y x ≡ finalSample (givenOf n) l p₀ luma y x
-      fresh y x = rw (le-leb (min (n .h) 0) y (omega arith))
+  pub luma-history : Histories luma n l p₀
+  luma-history = theorem units (frameOf luma n l p₀) rows (λ a. lumaSeen l) there luma-shown

@@ -333,7 +333,7 @@ pub fn open(
     if status != 0 {
         return Opened {
             status,
-            state: crate::luma::none(),
+            state: crate::opening::none(),
         };
     }
     Opened {

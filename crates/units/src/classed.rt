@@ -1,4 +1,4 @@
-// Classed units: the classes of a block row, and what an advance and an opening are made of.
+// Classed units: the classes of a block row, and what an advance is made of.
 ghost use mathlib.Core.Path.{_≡_};
 ghost use mathlib.Core.Bool.{not, true};
 ghost use Prim.Native.Nat.{ℕ, _+_, _*_, _-_, _/_, _≤_, _<_};
@@ -15,12 +15,10 @@ ghost use Rattle.units.specs.States.{operationOf, givenOf};
 ghost use Rattle.units.specs.Windows.{rowsLent, RowsLie, ring};
 ghost use Rattle.units.specs.Operations.{answer, Answered, classAt};
 ghost use Rattle.units.specs.Advances.{callOf};
-ghost use Rattle.units.specs.Openings.{openState, stateUnless};
 ghost use Rattle.units.specs.Classed.{classLent, classedLent, TookClassed};
 ghost use Rattle.units.specs.ClassedRows.{classedSizes, statusBy, classesAt, Fit, Sound, Admitted, Stepped};
 use crate::Advanced;
 use crate::Numbers;
-use crate::Opened;
 use crate::State;
 use crate::refusals::Sizes;
 
@@ -295,51 +293,6 @@ fn taken(
     Turn {
         next: turned,
         classes: now,
-    }
-}
-
-// The state of a unit that is not declined, before its first row.
-fn first_state(op: usize, g: Numbers, p: &[u8], left: &[u8], top: &[u8], bottom: &[u8]) -> State
-    requires { ⌜ (1 ≤ op) × (op ≤ 3) ⌝ }
-    requires { ⌜ RowsLie (operationOf op) (givenOf g) (length (now p)) (length (now left)) (length (now top)) (length (now bottom)) ⌝ }
-    ensures { λ r. ⌜ r ≡ openState (operationOf op) g (rowsLent (now (left .entry)) (now (top .entry)) (now (bottom .entry))) (now (p .entry)) ⌝ }
-{
-    let rows = crate::rows::open_rows(op, g, p, left, top, bottom);
-    let indices = crate::rows::open_indices(op, g);
-    State {
-        op,
-        numbers: g,
-        done: 0,
-        next: 8,
-        classes: [0u8; 16],
-        indices,
-        rows,
-    }
-}
-
-// What an opening hands back, by its status.
-pub fn open(
-    op: usize,
-    g: Numbers,
-    status: u8,
-    p: &[u8],
-    left: &[u8],
-    top: &[u8],
-    bottom: &[u8],
-) -> Opened
-    requires { ⌜ (1 ≤ op) × (op ≤ 3) ⌝ }
-    requires { ⌜ (status ≡ 0 → RowsLie (operationOf op) (givenOf g) (length (now p)) (length (now left)) (length (now top)) (length (now bottom))) ⌝ }
-    ensures { λ r. ⌜ (r .status ≡ status) × (r .state ≡ stateUnless status (openState (operationOf op) g (rowsLent (now (left .entry)) (now (top .entry)) (now (bottom .entry))) (now (p .entry)))) ⌝ }
-{
-    if status != 0 {
-        return Opened {
-            status,
-            state: crate::luma::none(),
-        };
-    }
-    Opened {
-        status,
-        state: first_state(op, g, p, left, top, bottom),
     }
 }
 

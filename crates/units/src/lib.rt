@@ -1,17 +1,18 @@
 // Units that can be broken off between rows: open hands out a state, advance takes it with a row count and hands it back.
 ghost use mathlib.Core.Path.{_≡_};
 ghost use Rattle.units.specs.Operations.{answer, Answered, isFinished};
-ghost use Rattle.definition.specs.Units.{user, pretrained, chroma};
-ghost use Rattle.units.specs.Openings as Openings;
+ghost use Rattle.definition.specs.Units.{luma, user, pretrained, chroma};
+ghost use Rattle.units.specs.Openings.{Begun, Whole};
 ghost use Rattle.units.specs.Advances.{callOf};
 ghost use Rattle.units.specs.Chroma.{chromaLent, numbersC};
 ghost use Rattle.units.specs.Classed.{classedLent};
-ghost use Rattle.units.specs.Luma.{lumaLent, lumaCall, Begun, numbersY, Whole};
+ghost use Rattle.units.specs.Luma.{lumaLent, numbersY};
 
 mod chroma;
 mod classed;
 mod luma;
 mod luma_rows;
+mod opening;
 mod refusals;
 mod restore;
 mod rows;
@@ -83,7 +84,7 @@ impl State {
         filter: &[i8],
         skip: &[u16],
     ) -> Advanced
-        ensures { λ r. ⌜ Answered r (now (p .exit)) (answer (lumaCall count (lumaLent (now (left .entry)) (now (lpf .entry)) (now («lpf_bottom» .entry)) (now (filter .entry)) (now (skip .entry)))) self (now (p .entry))) ⌝ }
+        ensures { λ r. ⌜ Answered r (now (p .exit)) (answer (callOf luma count (lumaLent (now (left .entry)) (now (lpf .entry)) (now («lpf_bottom» .entry)) (now (filter .entry)) (now (skip .entry)))) self (now (p .entry))) ⌝ }
     {
         let status = luma::status(
             self,
@@ -277,23 +278,19 @@ pub fn open_y(
     edges: usize,
     skip: &[u16],
 ) -> Opened
-    ensures { λ r. ⌜ Begun r (numbersY w h edges stride «p_off» «lpf_off» «lpf_bottom_off») (lumaLent (now (left .entry)) (now (lpf .entry)) (now («lpf_bottom» .entry)) (now (filter .entry)) (now (skip .entry))) (now (p .entry)) ⌝ }
+    ensures { λ r. ⌜ Begun luma r (numbersY w h edges stride «p_off» «lpf_off» «lpf_bottom_off») (lumaLent (now (left .entry)) (now (lpf .entry)) (now («lpf_bottom» .entry)) (now (filter .entry)) (now (skip .entry))) (now (p .entry)) ⌝ }
 {
-    luma::open(
-        p,
-        p_off,
-        stride,
-        left,
-        lpf,
-        lpf_off,
-        lpf_bottom,
-        lpf_bottom_off,
-        w,
-        h,
-        filter,
-        edges,
-        skip,
-    )
+    let g = luma::numbers(w, h, edges, stride, p_off, lpf_off, lpf_bottom_off);
+    let status = luma::unit_status(
+        g,
+        p.len(),
+        left.len(),
+        lpf.len(),
+        lpf_bottom.len(),
+        filter.len(),
+        skip.len(),
+    );
+    opening::open(1, g, status, p, left, lpf, lpf_bottom)
 }
 
 #[repr(C)]
@@ -318,7 +315,7 @@ pub fn ns_wiener_single_y_8bpc(
     edges: usize,
     skip: &[u16],
 ) -> Restored
-    ensures { λ r. ⌜ Whole r (numbersY w h edges stride «p_off» «lpf_off» «lpf_bottom_off») (lumaLent (now (left .entry)) (now (lpf .entry)) (now («lpf_bottom» .entry)) (now (filter .entry)) (now (skip .entry))) (now (p .entry)) (now (p .exit)) ⌝ }
+    ensures { λ r. ⌜ Whole luma r (numbersY w h edges stride «p_off» «lpf_off» «lpf_bottom_off») (lumaLent (now (left .entry)) (now (lpf .entry)) (now («lpf_bottom» .entry)) (now (filter .entry)) (now (skip .entry))) (now (p .entry)) (now (p .exit)) ⌝ }
 {
     let opened = open_y(
         p,
@@ -369,7 +366,7 @@ pub fn open_n(
     edges: usize,
     skip: &[u16],
 ) -> Opened
-    ensures { λ r. ⌜ Openings.Begun user r (numbersY w h edges stride «p_off» «lpf_off» «lpf_bottom_off») (classedLent (now (left .entry)) (now (lpf .entry)) (now («lpf_bottom» .entry)) (now (filters .entry)) (now (map .entry)) (now (subclass .entry)) (now (noskip .entry)) (now (skip .entry)) «base_q») (now (p .entry)) ⌝ }
+    ensures { λ r. ⌜ Begun user r (numbersY w h edges stride «p_off» «lpf_off» «lpf_bottom_off») (classedLent (now (left .entry)) (now (lpf .entry)) (now («lpf_bottom» .entry)) (now (filters .entry)) (now (map .entry)) (now (subclass .entry)) (now (noskip .entry)) (now (skip .entry)) «base_q») (now (p .entry)) ⌝ }
 {
     let g = luma::numbers(w, h, edges, stride, p_off, lpf_off, lpf_bottom_off);
     let status = classed::unit_status(
@@ -385,7 +382,7 @@ pub fn open_n(
         noskip.len(),
         skip.len(),
     );
-    classed::open(2, g, status, p, left, lpf, lpf_bottom)
+    opening::open(2, g, status, p, left, lpf, lpf_bottom)
 }
 
 // A whole unit with user sets.
@@ -408,7 +405,7 @@ pub fn ns_wiener_multi_8bpc(
     edges: usize,
     skip: &[u16],
 ) -> Restored
-    ensures { λ r. ⌜ Openings.Whole user r (numbersY w h edges stride «p_off» «lpf_off» «lpf_bottom_off») (classedLent (now (left .entry)) (now (lpf .entry)) (now («lpf_bottom» .entry)) (now (filters .entry)) (now (map .entry)) (now (subclass .entry)) (now (noskip .entry)) (now (skip .entry)) «base_q») (now (p .entry)) (now (p .exit)) ⌝ }
+    ensures { λ r. ⌜ Whole user r (numbersY w h edges stride «p_off» «lpf_off» «lpf_bottom_off») (classedLent (now (left .entry)) (now (lpf .entry)) (now («lpf_bottom» .entry)) (now (filters .entry)) (now (map .entry)) (now (subclass .entry)) (now (noskip .entry)) (now (skip .entry)) «base_q») (now (p .entry)) (now (p .exit)) ⌝ }
 {
     let opened = open_n(
         p,
@@ -475,7 +472,7 @@ pub fn open_p(
     edges: usize,
     skip: &[u16],
 ) -> Opened
-    ensures { λ r. ⌜ Openings.Begun pretrained r (numbersY w h edges stride «p_off» «lpf_off» «lpf_bottom_off») (classedLent (now (left .entry)) (now (lpf .entry)) (now («lpf_bottom» .entry)) (now (filters .entry)) (now (map .entry)) (now (subclass .entry)) (now (noskip .entry)) (now (skip .entry)) «base_q») (now (p .entry)) ⌝ }
+    ensures { λ r. ⌜ Begun pretrained r (numbersY w h edges stride «p_off» «lpf_off» «lpf_bottom_off») (classedLent (now (left .entry)) (now (lpf .entry)) (now («lpf_bottom» .entry)) (now (filters .entry)) (now (map .entry)) (now (subclass .entry)) (now (noskip .entry)) (now (skip .entry)) «base_q») (now (p .entry)) ⌝ }
 {
     let g = luma::numbers(w, h, edges, stride, p_off, lpf_off, lpf_bottom_off);
     let status = classed::unit_status(
@@ -491,7 +488,7 @@ pub fn open_p(
         noskip.len(),
         skip.len(),
     );
-    classed::open(3, g, status, p, left, lpf, lpf_bottom)
+    opening::open(3, g, status, p, left, lpf, lpf_bottom)
 }
 
 // A whole unit with pretrained sets.
@@ -514,7 +511,7 @@ pub fn pc_wiener_8bpc(
     edges: usize,
     skip: &[u16],
 ) -> Restored
-    ensures { λ r. ⌜ Openings.Whole pretrained r (numbersY w h edges stride «p_off» «lpf_off» «lpf_bottom_off») (classedLent (now (left .entry)) (now (lpf .entry)) (now («lpf_bottom» .entry)) (now (filters .entry)) (now (map .entry)) (now (subclass .entry)) (now (noskip .entry)) (now (skip .entry)) «base_q») (now (p .entry)) (now (p .exit)) ⌝ }
+    ensures { λ r. ⌜ Whole pretrained r (numbersY w h edges stride «p_off» «lpf_off» «lpf_bottom_off») (classedLent (now (left .entry)) (now (lpf .entry)) (now («lpf_bottom» .entry)) (now (filters .entry)) (now (map .entry)) (now (subclass .entry)) (now (noskip .entry)) (now (skip .entry)) «base_q») (now (p .entry)) (now (p .exit)) ⌝ }
 {
     let opened = open_p(
         p,
@@ -587,7 +584,7 @@ pub fn open_c(
     edges: usize,
     skip: &[u16],
 ) -> Opened
-    ensures { λ r. ⌜ Openings.Begun chroma r (numbersC w h edges stride lstride «p_off» «lpf_off» «lpf_bottom_off» «luma_off» «luma_top_off» «luma_bottom_off» «ss_hor» «ss_ver» «ds_flt») (chromaLent (now (left .entry)) (now (lpf .entry)) (now («lpf_bottom» .entry)) (now (filter .entry)) (now (luma .entry)) (now («luma_top» .entry)) (now («luma_bottom» .entry)) (now (skip .entry))) (now (p .entry)) ⌝ }
+    ensures { λ r. ⌜ Begun chroma r (numbersC w h edges stride lstride «p_off» «lpf_off» «lpf_bottom_off» «luma_off» «luma_top_off» «luma_bottom_off» «ss_hor» «ss_ver» «ds_flt») (chromaLent (now (left .entry)) (now (lpf .entry)) (now («lpf_bottom» .entry)) (now (filter .entry)) (now (luma .entry)) (now («luma_top» .entry)) (now («luma_bottom» .entry)) (now (skip .entry))) (now (p .entry)) ⌝ }
 {
     let g = Numbers {
         w,
@@ -645,7 +642,7 @@ pub fn ns_wiener_single_uv_8bpc(
     edges: usize,
     skip: &[u16],
 ) -> Restored
-    ensures { λ r. ⌜ Openings.Whole chroma r (numbersC w h edges stride lstride «p_off» «lpf_off» «lpf_bottom_off» «luma_off» «luma_top_off» «luma_bottom_off» «ss_hor» «ss_ver» «ds_flt») (chromaLent (now (left .entry)) (now (lpf .entry)) (now («lpf_bottom» .entry)) (now (filter .entry)) (now (luma .entry)) (now («luma_top» .entry)) (now («luma_bottom» .entry)) (now (skip .entry))) (now (p .entry)) (now (p .exit)) ⌝ }
+    ensures { λ r. ⌜ Whole chroma r (numbersC w h edges stride lstride «p_off» «lpf_off» «lpf_bottom_off» «luma_off» «luma_top_off» «luma_bottom_off» «ss_hor» «ss_ver» «ds_flt») (chromaLent (now (left .entry)) (now (lpf .entry)) (now («lpf_bottom» .entry)) (now (filter .entry)) (now (luma .entry)) (now («luma_top» .entry)) (now («luma_bottom» .entry)) (now (skip .entry))) (now (p .entry)) (now (p .exit)) ⌝ }
 {
     let opened = open_c(
         p,

@@ -1,4 +1,4 @@
-// Luma units: what an advance and an opening are made of.
+// Luma units: what an advance is made of.
 ghost use mathlib.Core.Path.{_≡_};
 ghost use Prim.Native.Nat.{ℕ, _+_, _*_, _-_, _/_, _≤_, _<_, min};
 ghost use lib.ListN.{length, getD};
@@ -10,10 +10,10 @@ ghost use Rattle.definition.specs.Units.{luma};
 ghost use Rattle.units.specs.States.{givenOf};
 ghost use Rattle.units.specs.Windows.{RowsLie, ring, rowsLent};
 ghost use Rattle.units.specs.Operations.{answer, Answered};
-ghost use Rattle.units.specs.Luma.{lumaLent, lumaCall, lumaSizes, statusBy, Admitted, numbersY, noState, openState, Begun, Stepped};
+ghost use Rattle.units.specs.Advances.{callOf};
+ghost use Rattle.units.specs.Luma.{lumaLent, lumaSizes, statusBy, Admitted, numbersY, Stepped};
 use crate::Advanced;
 use crate::Numbers;
-use crate::Opened;
 use crate::State;
 use crate::refusals::Sizes;
 
@@ -166,7 +166,7 @@ pub fn advanced(
     skip: &[u16],
 ) -> Advanced
     requires { ⌜ Admitted s (length (now p)) (length (now left)) (length (now top)) (length (now bottom)) (length (now filter)) (length (now skip)) ⌝ }
-    ensures { λ r. ⌜ Answered r (now (p .exit)) (answer (lumaCall count (lumaLent (now (left .entry)) (now (top .entry)) (now (bottom .entry)) (now (filter .entry)) (now (skip .entry)))) s (now (p .entry))) ⌝ }
+    ensures { λ r. ⌜ Answered r (now (p .exit)) (answer (callOf luma count (lumaLent (now (left .entry)) (now (top .entry)) (now (bottom .entry)) (now (filter .entry)) (now (skip .entry)))) s (now (p .entry))) ⌝ }
 {
     let g = s.numbers;
     let start = s.done;
@@ -210,12 +210,6 @@ pub fn advanced(
     }
 }
 
-fn no_numbers() -> Numbers
-    ensures { λ r. ⌜ r ≡ numbersY 0 0 0 0 0 0 0 ⌝ }
-{
-    numbers(0, 0, 0, 0, 0, 0, 0)
-}
-
 pub fn numbers(
     w: usize,
     h: usize,
@@ -242,77 +236,5 @@ pub fn numbers(
         ss_hor: 0,
         ss_ver: 0,
         kind: 0,
-    }
-}
-
-// The state of zeros.
-pub fn none() -> State
-    ensures { λ r. ⌜ r ≡ noState ⌝ }
-{
-    State {
-        op: 0,
-        numbers: no_numbers(),
-        done: 0,
-        next: 0,
-        classes: [0u8; 16],
-        indices: [0usize; 10],
-        rows: [0u8; 1080],
-    }
-}
-
-// The state of a unit that is not declined, before its first row.
-fn first_state(g: Numbers, p: &[u8], left: &[u8], top: &[u8], bottom: &[u8]) -> State
-    requires { ⌜ RowsLie luma (givenOf g) (length (now p)) (length (now left)) (length (now top)) (length (now bottom)) ⌝ }
-    ensures { λ r. ⌜ r ≡ openState g (rowsLent (now (left .entry)) (now (top .entry)) (now (bottom .entry))) (now (p .entry)) ⌝ }
-{
-    let rows = crate::rows::open_rows(1, g, p, left, top, bottom);
-    let indices = crate::rows::open_indices(1, g);
-    State {
-        op: 1,
-        numbers: g,
-        done: 0,
-        next: 8,
-        classes: [0u8; 16],
-        indices,
-        rows,
-    }
-}
-
-pub fn open(
-    p: &[u8],
-    p_off: usize,
-    stride: usize,
-    left: &[u8],
-    lpf: &[u8],
-    lpf_off: usize,
-    lpf_bottom: &[u8],
-    lpf_bottom_off: usize,
-    w: usize,
-    h: usize,
-    filter: &[i8],
-    edges: usize,
-    skip: &[u16],
-) -> Opened
-    ensures { λ r. ⌜ Begun r (numbersY w h edges stride «p_off» «lpf_off» «lpf_bottom_off») (lumaLent (now (left .entry)) (now (lpf .entry)) (now («lpf_bottom» .entry)) (now (filter .entry)) (now (skip .entry))) (now (p .entry)) ⌝ }
-{
-    let g = numbers(w, h, edges, stride, p_off, lpf_off, lpf_bottom_off);
-    let status = unit_status(
-        g,
-        p.len(),
-        left.len(),
-        lpf.len(),
-        lpf_bottom.len(),
-        filter.len(),
-        skip.len(),
-    );
-    if status != 0 {
-        return Opened {
-            status,
-            state: none(),
-        };
-    }
-    Opened {
-        status: 0,
-        state: first_state(g, p, left, lpf, lpf_bottom),
     }
 }

@@ -1,7 +1,9 @@
 -- `units::ns_wiener_single_y_8bpc` meets its contract: demand 2, by the theorem of demand 3 at the history of one advance. Assumes nothing.
-use mathlib.Core.Path.{_≡_, sym, _∙_}
-use Rattle.units.specs.Luma.{numbersY, lumaLent, openStatus, openState}
-use Rattle.units.specs.LumaHistory.{whole-of}
+use mathlib.Core.Path.{refl}
+use Rattle.definition.specs.Units.{luma}
+use Rattle.units.specs.Luma.{numbersY, lumaLent}
+use Rattle.units.specs.LumaHistory.{luma-history}
+use Rattle.units.specs.Wholes.{whole-at}
 use borrow.Author.Needs.{needs}
 use Rattle.units.proofs.ns_wiener_single_y_8bpc.Statement.{statement}
 use Rattle.units.proofs.ns_wiener_single_y_8bpc.Tie as tie
@@ -26,11 +28,7 @@ returns-2 c =
     let t = c .before .before .before .before .before .before .before .before .before .before .before .before .before .before .args in
     let n = numbersY (t .w) (t .h) (t .edges) (t .stride) (t .p-off) (t .lpf-off) (t .lpf-bottom-off) in
     let l = lumaLent (t .left .now) (t .lpf .now) (t .lpf-bottom .now) (t .filter .now) (t .skip .now) in
-    let o = c .before .before .before .before .before .before .before .open-y .ensures in
-    let z : openStatus n l (t .p .now) ≡ 0 = sym (o .status) ∙ c .before .before .before .before .before .if1 .left in
-    let s : c .before .before .before .before .before .before .before .open-y .result .state ≡ openState n l (t .p .now) = o .state ∙ rw z in
-    let a = c .before .before .advance-y .ensures in
-    whole-of n l (t .p .now) z _ _ (rw s at (a .status)) (rw s at (a .pieces)) (rw s at (a .plane))
+    whole-at luma n l (t .p .now) (luma-history n l (t .p .now)) _ (c .before .before .before .before .before .before .before .open-y .ensures) (c .before .before .before .before .before .if1 .left) _ _ (c .before .before .advance-y .ensures) _ refl refl
 
 pub ns-wiener-single-y-8bpc-spec : {M : Type 1} → statement M
 ns-wiener-single-y-8bpc-spec =

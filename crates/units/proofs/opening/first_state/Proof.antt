@@ -1,9 +1,9 @@
--- `classed::first_state` meets its contract: the rows and the indices of the opening. Assumes nothing.
+-- `opening::first_state` meets its contract: the rows and the indices of the opening. Assumes nothing.
 use Rattle.units.specs.Windows.{rowsLent}
 use Rattle.units.proofs.ClassedTurns.{first-is}
 use borrow.Author.Needs.{needs}
-use Rattle.units.proofs.classed.first_state.Statement.{statement}
-use Rattle.units.proofs.classed.first_state.Tie as tie
+use Rattle.units.proofs.opening.first_state.Statement.{statement}
+use Rattle.units.proofs.opening.first_state.Tie as tie
 
 open-rows-requires : tie.Need-open-rows-requires
 open-rows-requires c κs = search needs

@@ -1,12 +1,12 @@
--- `classed::open` meets its contract: by the status. Assumes nothing.
+-- `opening::open` meets its contract: by the status. Assumes nothing.
 use mathlib.Core.Path.{refl, _∙_}
 use Rattle.units.specs.States.{operationOf}
 use Rattle.units.specs.Windows.{rowsLent}
 use Rattle.units.specs.Openings.{openState}
 use Rattle.units.proofs.ClassedTurns.{none-unless}
 use borrow.Author.Needs.{needs}
-use Rattle.units.proofs.classed.open.Statement.{statement}
-use Rattle.units.proofs.classed.open.Tie as tie
+use Rattle.units.proofs.opening.open.Statement.{statement}
+use Rattle.units.proofs.opening.open.Tie as tie
 
 none-requires : tie.Need-none-requires
 none-requires c κs = search needs

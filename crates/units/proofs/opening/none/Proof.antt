@@ -1,8 +1,8 @@
--- `luma::none` meets its contract. Assumes nothing.
+-- `opening::none` meets its contract. Assumes nothing.
 use borrow.Author.Needs.{needs}
-use Rattle.units.specs.Luma.{noState}
-use Rattle.units.proofs.luma.none.Statement.{statement}
-use Rattle.units.proofs.luma.none.Tie as tie
+use Rattle.units.specs.Openings.{noState}
+use Rattle.units.proofs.opening.none.Statement.{statement}
+use Rattle.units.proofs.opening.none.Tie as tie
 
 no-numbers-requires : tie.Need-no-numbers-requires
 no-numbers-requires c κs = search needs
