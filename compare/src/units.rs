@@ -63,6 +63,13 @@ struct Rows {
     bytes: Vec<u8>,
 }
 
+/// How the lists of a unit lie: its stride is less than `room` over the least one, and no list's offset is under `first`.
+#[derive(Clone, Copy)]
+pub(crate) struct Spacing {
+    pub room: usize,
+    pub first: usize,
+}
+
 /// Samples of one unit: any, or all near to one value, where its classes differ most.
 #[derive(Clone, Copy)]
 enum Shades {
@@ -94,7 +101,7 @@ fn lend(
             bytes: Vec::new(),
         };
     }
-    let off = before.max(1) + r.below(4);
+    let off = before + r.below(4);
     let least = off + (rows - 1) * stride + row;
     let len = least + [0, 0, 1, 3][r.below(4)];
     Rows {
@@ -116,17 +123,16 @@ impl Unit {
     }
 
     pub fn sized(r: &mut Random, op: Operation, edge_set: u8, w: usize, h: usize) -> Unit {
-        Unit::spaced(r, op, edge_set, w, h, 4)
+        Unit::spaced(r, op, edge_set, w, h, Spacing { room: 4, first: 1 })
     }
 
-    /// A unit whose stride is less than `room` over the least one.
     pub fn spaced(
         r: &mut Random,
         op: Operation,
         edge_set: u8,
         w: usize,
         h: usize,
-        room: usize,
+        spacing: Spacing,
     ) -> Unit {
         let chroma = op == Operation::Chroma;
         let classed = op == Operation::User || op == Operation::Pretrained;
@@ -139,7 +145,7 @@ impl Unit {
         let bit = |k: u8| edges >> k & 1 != 0;
         let e = if chroma { 2 } else { 4 };
         let beside = |k: u8, n: usize| if bit(k) { n } else { 0 };
-        let stride = w + beside(1, e) + r.below(room);
+        let stride = w + beside(1, e) + r.below(spacing.room);
         let shades = if classed && !r.once_in(3) {
             Shades::Near(r.within(10, 245), r.within(0, 24))
         } else {
@@ -154,14 +160,29 @@ impl Unit {
             beside(2, 2)
         };
         let bottom_rows = if bit(5) { 0 } else { beside(3, 2) };
-        let own = lend(r, shades, h + beside(5, e), stride, 0, w + beside(1, e));
-        let top = lend(r, shades, top_rows, stride, beside(0, e), w + beside(1, e));
+        let before = |n: usize| n.max(spacing.first);
+        let own = lend(
+            r,
+            shades,
+            h + beside(5, e),
+            stride,
+            before(0),
+            w + beside(1, e),
+        );
+        let top = lend(
+            r,
+            shades,
+            top_rows,
+            stride,
+            before(beside(0, e)),
+            w + beside(1, e),
+        );
         let bottom = lend(
             r,
             shades,
             bottom_rows,
             stride,
-            beside(0, e),
+            before(beside(0, e)),
             w + beside(1, e),
         );
 
@@ -185,7 +206,7 @@ impl Unit {
         } else {
             0
         };
-        let luma = lend(r, shades, luma_rows, luma_stride, above, luma_row);
+        let luma = lend(r, shades, luma_rows, luma_stride, before(above), luma_row);
         let luma_top_rows = if !chroma || bit(4) || !bit(2) {
             0
         } else {
@@ -196,7 +217,7 @@ impl Unit {
             shades,
             luma_top_rows,
             luma_stride,
-            beside(0, 4),
+            before(beside(0, 4)),
             luma_row,
         );
         let luma_bottom_rows = if chroma { bottom_rows } else { 0 };
@@ -205,7 +226,7 @@ impl Unit {
             shades,
             luma_bottom_rows,
             luma_stride,
-            beside(0, 4),
+            before(beside(0, 4)),
             luma_row,
         );
 

@@ -5,7 +5,7 @@ use crate::leaves::Written;
 use crate::port::{self, Restored};
 use crate::random::Random;
 use crate::tables::PC_WIENER_LUT_TO_CLASS;
-use crate::units::{OPERATIONS, Operation, Unit};
+use crate::units::{OPERATIONS, Operation, Spacing, Unit};
 
 const LEFT: u8 = 1;
 const BOTTOM_INTEGRATED: u8 = 32;
@@ -260,8 +260,11 @@ pub(crate) fn compare(seed: u64, count: usize) -> bool {
             } else {
                 (4 + 4 * r.below(3), 4 + 4 * r.below(3))
             };
-            let room = [4, 4, 4, 100][r.below(4)];
-            let u = Unit::spaced(&mut r, op, edge_set, w, h, room);
+            let spacing = Spacing {
+                room: [4, 4, 4, 100][r.below(4)],
+                first: 0,
+            };
+            let u = Unit::spaced(&mut r, op, edge_set, w, h, spacing);
             let mut expected = u.plane.clone();
             u.for_rust().restore(&exec, &mut expected);
             let (answer, plane, kept) = by_port(&u, &PC_WIENER_LUT_TO_CLASS);
