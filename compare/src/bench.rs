@@ -8,6 +8,9 @@ use crate::looprestoration::{backup_row_8bpc, backup_row_luma_8bpc};
 use crate::port;
 use crate::random::Random;
 use crate::runs::{self, CHROMA_ROWS, ROW, ROWS};
+use crate::tables::PC_WIENER_LUT_TO_CLASS;
+use crate::units::{ForRust, OPERATIONS, Unit};
+use crate::whole::{self, ForPort};
 
 /// Inputs that a batch goes through in turn, runs to a batch, and batches. A batch is short against the time that a
 /// scheduler gives, so that some are not disturbed on a busy machine.
@@ -89,6 +92,49 @@ fn line(name: &str, n: usize, (rust, port): (f64, f64)) {
         "{name:<22}{n:>6}{rust:>12.1}{port:>12.1}{:>12.3}",
         port / rust
     );
+}
+
+/// Whole units of 64 by 64 samples with no masks and all edge bits but the integrated ones, restored from their first
+/// samples in each batch.
+fn units(exec: &ExecContext) {
+    const UNITS: usize = 8;
+    const EDGES: u8 = 15;
+    for op in OPERATIONS {
+        let mut r = Random::new(11);
+        let mut units: Vec<Unit> = (0..UNITS)
+            .map(|_| Unit::sized(&mut r, op, EDGES, 64, 64))
+            .collect();
+        for u in &mut units {
+            u.skip.fill(0);
+        }
+        let by_rust: Vec<ForRust<'_>> = units.iter().map(Unit::for_rust).collect();
+        let by_port: Vec<ForPort<'_>> = units
+            .iter()
+            .map(|u| ForPort::new(u, &PC_WIENER_LUT_TO_CLASS))
+            .collect();
+        let planes: Vec<Vec<u8>> = units.iter().map(|u| u.plane.clone()).collect();
+        let mut planes = (planes.clone(), planes);
+        let mut least = (f64::MAX, f64::MAX);
+        for _ in 0..BATCHES {
+            for (k, u) in units.iter().enumerate() {
+                planes.0[k].copy_from_slice(&u.plane);
+                planes.1[k].copy_from_slice(&u.plane);
+            }
+            let start = Instant::now();
+            for (u, plane) in by_rust.iter().zip(&mut planes.0) {
+                black_box(u).restore(exec, black_box(plane));
+            }
+            let between = Instant::now();
+            for (u, plane) in by_port.iter().zip(&mut planes.1) {
+                black_box(black_box(u).restore(black_box(plane)));
+            }
+            let rust = (between - start).as_nanos() as f64 / UNITS as f64;
+            let port = between.elapsed().as_nanos() as f64 / UNITS as f64;
+            assert!(planes.0 == planes.1, "the two differ");
+            least = (least.0.min(rust), least.1.min(port));
+        }
+        line(whole::name(op), 64, least);
+    }
 }
 
 pub(crate) fn run() {
@@ -296,4 +342,5 @@ pub(crate) fn run() {
         answer.index + (u32::from(answer.status) << 16)
     };
     line("get_class_lut_idx", 1, measure(&cases, 1, rust, port));
+    units(&exec);
 }

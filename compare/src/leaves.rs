@@ -66,16 +66,20 @@ impl Tally {
 const AROUND: usize = 64;
 
 /// A list that a leaf writes, with bytes around it that it must not write.
-struct Written {
+pub(crate) struct Written {
     before: Vec<u8>,
     memory: Vec<u8>,
 }
 
 impl Written {
-    fn new(before: Vec<u8>) -> Written {
+    pub fn new(before: Vec<u8>) -> Written {
         let around = [0xa5; AROUND];
         let memory = [&around, &before[..], &around].concat();
         Written { before, memory }
+    }
+
+    pub fn list(&mut self) -> &mut [u8] {
+        &mut self.memory[AROUND..][..self.before.len()]
     }
 
     fn pointer(&mut self) -> *mut u8 {
@@ -86,11 +90,11 @@ impl Written {
         self.before.len()
     }
 
-    fn now(&self) -> &[u8] {
+    pub fn now(&self) -> &[u8] {
         &self.memory[AROUND..][..self.before.len()]
     }
 
-    fn around_kept(&self) -> bool {
+    pub fn around_kept(&self) -> bool {
         let (first, last) = (
             &self.memory[..AROUND],
             &self.memory[AROUND + self.before.len()..],

@@ -16,6 +16,8 @@
 //!     compare vectors SEED COUNT    prints an antt file with COUNT random units of each of the four operations and what
 //!                                   the Rust makes of them, to be checked against the definition by computation
 //!     compare leaves SEED COUNT     COUNT random runs of each leaf of the port against the Rust; status 1 if any differs
+//!     compare units SEED COUNT      COUNT random whole units of each operation, restored by the port and by the Rust, every
+//!                                   byte of the plane compared; status 1 if any differs
 //!     compare bench                 nanoseconds per run of the Rust's scalar functions and of the port's
 
 #[cfg(feature = "linked")]
@@ -31,6 +33,8 @@ mod runs;
 mod stand_ins;
 mod units;
 mod vectors;
+#[cfg(feature = "linked")]
+mod whole;
 
 #[cfg(target_arch = "aarch64")]
 use stand_ins::neon;
@@ -39,7 +43,7 @@ use stand_ins::{exec_context, headers, lf_mask, pixel, rowops_dispatch, tables};
 include!(concat!(env!("OUT_DIR"), "/reference.rs"));
 
 fn usage() -> ! {
-    eprintln!("usage: compare vectors SEED COUNT | leaves SEED COUNT | bench");
+    eprintln!("usage: compare vectors SEED COUNT | leaves SEED COUNT | units SEED COUNT | bench");
     std::process::exit(2);
 }
 
@@ -54,6 +58,14 @@ fn linked(words: &[&str]) {
                 std::process::exit(1);
             }
         }
+        ["units", seed, count] => {
+            let (Ok(seed), Ok(count)) = (seed.parse(), count.parse()) else {
+                usage()
+            };
+            if !whole::compare(seed, count) {
+                std::process::exit(1);
+            }
+        }
         ["bench"] => bench::run(),
         _ => usage(),
     }
@@ -61,8 +73,8 @@ fn linked(words: &[&str]) {
 
 #[cfg(not(feature = "linked"))]
 fn linked(words: &[&str]) {
-    if let ["leaves", ..] | ["bench"] = words {
-        eprintln!("leaves and bench need the port: build with --features linked");
+    if let ["leaves" | "units", ..] | ["bench"] = words {
+        eprintln!("leaves, units and bench need the port: build with --features linked");
     }
     usage();
 }

@@ -14,6 +14,14 @@ pub(crate) struct QuantizerTerm {
     pub value: i32,
 }
 
+/// What a whole unit answers.
+#[repr(C)]
+#[derive(Clone, Copy, Debug, PartialEq, Eq)]
+pub(crate) struct Restored {
+    pub status: u8,
+    pub pieces: usize,
+}
+
 unsafe extern "C" {
     pub(crate) fn gihvendu_ns_wiener_fir_run(
         dst: *mut u8,
@@ -108,4 +116,119 @@ unsafe extern "C" {
     ) -> ClassIndex;
 
     pub(crate) fn gihvendu_get_qval_given_tskip(qstep: i32, tskip: u8, i: usize) -> QuantizerTerm;
+
+    pub(crate) fn gihvendu_ns_wiener_single_y_8bpc(
+        p: *mut u8,
+        p_len: usize,
+        p_off: usize,
+        stride: usize,
+        left: *const u8,
+        left_len: usize,
+        lpf: *const u8,
+        lpf_len: usize,
+        lpf_off: usize,
+        lpf_bottom: *const u8,
+        lpf_bottom_len: usize,
+        lpf_bottom_off: usize,
+        w: usize,
+        h: usize,
+        filter: *const i8,
+        filter_len: usize,
+        edges: usize,
+        skip: *const u16,
+        skip_len: usize,
+    ) -> Restored;
+
+    pub(crate) fn gihvendu_ns_wiener_multi_8bpc(
+        p: *mut u8,
+        p_len: usize,
+        p_off: usize,
+        stride: usize,
+        left: *const u8,
+        left_len: usize,
+        lpf: *const u8,
+        lpf_len: usize,
+        lpf_off: usize,
+        lpf_bottom: *const u8,
+        lpf_bottom_len: usize,
+        lpf_bottom_off: usize,
+        w: usize,
+        h: usize,
+        filters: *const i8,
+        filters_len: usize,
+        map: *const u8,
+        map_len: usize,
+        subclass: *const u8,
+        subclass_len: usize,
+        noskip: *const u16,
+        noskip_len: usize,
+        base_q: i32,
+        edges: usize,
+        skip: *const u16,
+        skip_len: usize,
+    ) -> Restored;
+
+    pub(crate) fn gihvendu_pc_wiener_8bpc(
+        p: *mut u8,
+        p_len: usize,
+        p_off: usize,
+        stride: usize,
+        left: *const u8,
+        left_len: usize,
+        lpf: *const u8,
+        lpf_len: usize,
+        lpf_off: usize,
+        lpf_bottom: *const u8,
+        lpf_bottom_len: usize,
+        lpf_bottom_off: usize,
+        w: usize,
+        h: usize,
+        filters: *const i16,
+        filters_len: usize,
+        map: *const u8,
+        map_len: usize,
+        subclass: *const u8,
+        subclass_len: usize,
+        noskip: *const u16,
+        noskip_len: usize,
+        base_q: i32,
+        edges: usize,
+        skip: *const u16,
+        skip_len: usize,
+    ) -> Restored;
+
+    pub(crate) fn gihvendu_ns_wiener_single_uv_8bpc(
+        p: *mut u8,
+        p_len: usize,
+        p_off: usize,
+        stride: usize,
+        left: *const u8,
+        left_len: usize,
+        lpf: *const u8,
+        lpf_len: usize,
+        lpf_off: usize,
+        lpf_bottom: *const u8,
+        lpf_bottom_len: usize,
+        lpf_bottom_off: usize,
+        w: usize,
+        h: usize,
+        filter: *const i8,
+        filter_len: usize,
+        luma: *const u8,
+        luma_len: usize,
+        luma_off: usize,
+        lstride: usize,
+        luma_top: *const u8,
+        luma_top_len: usize,
+        luma_top_off: usize,
+        luma_bottom: *const u8,
+        luma_bottom_len: usize,
+        luma_bottom_off: usize,
+        ss_hor: usize,
+        ss_ver: usize,
+        ds_flt: usize,
+        edges: usize,
+        skip: *const u16,
+        skip_len: usize,
+    ) -> Restored;
 }

@@ -6,7 +6,7 @@ use crate::looprestoration::{
 };
 use crate::random::Random;
 
-#[derive(Clone, Copy, PartialEq, Eq)]
+#[derive(Clone, Copy, Debug, PartialEq, Eq)]
 pub(crate) enum Operation {
     Luma,
     User,
@@ -22,6 +22,7 @@ pub(crate) const OPERATIONS: [Operation; 4] = [
 ];
 
 /// A unit that is not refused: what it is opened with, and what is lent. Lists that its edge bits leave unused are empty.
+#[derive(Clone, Debug, PartialEq, Eq)]
 pub(crate) struct Unit {
     pub op: Operation,
     pub w: usize,
@@ -50,13 +51,23 @@ pub(crate) struct Unit {
     pub subclass: Vec<u8>,
     pub filters: Vec<i64>,
     pub q: i32,
+    /// the least lengths of `plane`, `top`, `bottom`, `luma_plane`, `luma_top` and `luma_bottom`
+    pub least: [usize; 6],
 }
 
 /// Rows of lent bytes: `above` samples before the first row and the least length that takes all, sometimes a little more
 /// of both.
 struct Rows {
     off: usize,
+    least: usize,
     bytes: Vec<u8>,
+}
+
+/// How the lists of a unit lie: its stride is less than `room` over the least one, and no list's offset is under `first`.
+#[derive(Clone, Copy)]
+pub(crate) struct Spacing {
+    pub room: usize,
+    pub first: usize,
 }
 
 /// Samples of one unit: any, or all near to one value, where its classes differ most.
@@ -86,13 +97,16 @@ fn lend(
     if rows == 0 {
         return Rows {
             off: r.below(9),
+            least: 0,
             bytes: Vec::new(),
         };
     }
-    let off = before.max(1) + r.below(4);
-    let len = off + (rows - 1) * stride + row + [0, 0, 1, 3][r.below(4)];
+    let off = before + r.below(4);
+    let least = off + (rows - 1) * stride + row;
+    let len = least + [0, 0, 1, 3][r.below(4)];
     Rows {
         off,
+        least,
         bytes: shades.bytes(r, len),
     }
 }
@@ -109,6 +123,17 @@ impl Unit {
     }
 
     pub fn sized(r: &mut Random, op: Operation, edge_set: u8, w: usize, h: usize) -> Unit {
+        Unit::spaced(r, op, edge_set, w, h, Spacing { room: 4, first: 1 })
+    }
+
+    pub fn spaced(
+        r: &mut Random,
+        op: Operation,
+        edge_set: u8,
+        w: usize,
+        h: usize,
+        spacing: Spacing,
+    ) -> Unit {
         let chroma = op == Operation::Chroma;
         let classed = op == Operation::User || op == Operation::Pretrained;
         let edges = edge_set
@@ -120,7 +145,7 @@ impl Unit {
         let bit = |k: u8| edges >> k & 1 != 0;
         let e = if chroma { 2 } else { 4 };
         let beside = |k: u8, n: usize| if bit(k) { n } else { 0 };
-        let stride = w + beside(1, e) + r.below(4);
+        let stride = w + beside(1, e) + r.below(spacing.room);
         let shades = if classed && !r.once_in(3) {
             Shades::Near(r.within(10, 245), r.within(0, 24))
         } else {
@@ -135,14 +160,29 @@ impl Unit {
             beside(2, 2)
         };
         let bottom_rows = if bit(5) { 0 } else { beside(3, 2) };
-        let own = lend(r, shades, h + beside(5, e), stride, 0, w + beside(1, e));
-        let top = lend(r, shades, top_rows, stride, beside(0, e), w + beside(1, e));
+        let before = |n: usize| n.max(spacing.first);
+        let own = lend(
+            r,
+            shades,
+            h + beside(5, e),
+            stride,
+            before(0),
+            w + beside(1, e),
+        );
+        let top = lend(
+            r,
+            shades,
+            top_rows,
+            stride,
+            before(beside(0, e)),
+            w + beside(1, e),
+        );
         let bottom = lend(
             r,
             shades,
             bottom_rows,
             stride,
-            beside(0, e),
+            before(beside(0, e)),
             w + beside(1, e),
         );
 
@@ -166,7 +206,7 @@ impl Unit {
         } else {
             0
         };
-        let luma = lend(r, shades, luma_rows, luma_stride, above, luma_row);
+        let luma = lend(r, shades, luma_rows, luma_stride, before(above), luma_row);
         let luma_top_rows = if !chroma || bit(4) || !bit(2) {
             0
         } else {
@@ -177,7 +217,7 @@ impl Unit {
             shades,
             luma_top_rows,
             luma_stride,
-            beside(0, 4),
+            before(beside(0, 4)),
             luma_row,
         );
         let luma_bottom_rows = if chroma { bottom_rows } else { 0 };
@@ -186,7 +226,7 @@ impl Unit {
             shades,
             luma_bottom_rows,
             luma_stride,
-            beside(0, 4),
+            before(beside(0, 4)),
             luma_row,
         );
 
@@ -238,110 +278,50 @@ impl Unit {
             },
             filters,
             q: if classed { r.quantizer() } else { 0 },
+            least: [
+                own.least,
+                top.least,
+                bottom.least,
+                luma.least,
+                luma_top.least,
+                luma_bottom.least,
+            ],
         }
     }
 
-    /// The plane after the Rust restored the unit. The Rust indexes `left` without the left bit too, and in kind 0 one
-    /// luma column too many: it is lent those.
+    /// The plane after the Rust restored the unit.
     pub fn restored(&self) -> Vec<u8> {
-        let exec = ExecContext::new();
         let mut plane = self.plane.clone();
+        self.for_rust().restore(&ExecContext::new(), &mut plane);
+        plane
+    }
+
+    /// The lists in the Rust's types. The Rust indexes `left` without the left bit too, and in kind 0 one luma column too
+    /// many: it is lent those.
+    pub fn for_rust(&self) -> ForRust<'_> {
         let mut left: Vec<[u8; 6]> = self.left.as_chunks::<6>().0.to_vec();
         left.resize(self.h, [171; 6]);
-        let masks: Vec<[u16; 4]> = self.skip.as_chunks::<4>().0.to_vec();
         let wider = |bytes: &[u8]| [bytes, &[211]].concat();
-        let (luma, luma_top, luma_bottom) = (
-            wider(&self.luma_plane),
-            wider(&self.luma_top),
-            wider(&self.luma_bottom),
-        );
-        let narrow: Vec<i8> = self.filters.iter().map(|&c| c as i8).collect();
-        match self.op {
-            Operation::Luma => ns_wiener_single_y_8bpc(
-                &exec,
-                &mut plane,
-                self.off,
-                self.stride,
-                &left,
-                &self.top,
-                self.top_off,
-                &self.bottom,
-                self.bottom_off,
-                self.w,
-                self.h,
-                narrow.as_array::<16>().expect("16 numbers"),
-                self.edges,
-                &masks,
-            ),
-            Operation::User => ns_wiener_multi_8bpc(
-                &exec,
-                &mut plane,
-                self.off,
-                self.stride,
-                &left,
-                &self.top,
-                self.top_off,
-                &self.bottom,
-                self.bottom_off,
-                self.w,
-                self.h,
-                narrow.as_chunks::<18>().0,
-                &self.subclass,
-                &self.noskip,
-                self.q,
-                self.edges,
-                &masks,
-            ),
-            Operation::Pretrained => {
-                let wide: Vec<i16> = self.filters.iter().map(|&c| c as i16).collect();
-                pc_wiener_8bpc(
-                    &exec,
-                    &mut plane,
-                    self.off,
-                    self.stride,
-                    &left,
-                    &self.top,
-                    self.top_off,
-                    &self.bottom,
-                    self.bottom_off,
-                    self.w,
-                    self.h,
-                    wide.as_chunks::<13>().0,
-                    &self.subclass,
-                    &self.noskip,
-                    self.q,
-                    self.edges,
-                    &masks,
-                )
-            }
-            Operation::Chroma => ns_wiener_single_uv_8bpc(
-                &exec,
-                &mut plane,
-                self.off,
-                self.stride,
-                &left,
-                &self.top,
-                self.top_off,
-                &self.bottom,
-                self.bottom_off,
-                self.w,
-                self.h,
-                narrow.as_array::<18>().expect("18 numbers"),
-                &luma,
-                self.luma_off,
-                self.luma_stride,
-                &luma_top,
-                self.luma_top_off,
-                &luma_bottom,
-                self.luma_bottom_off,
-                self.ss_hor,
-                self.ss_ver,
-                self.kind as i32,
-                self.edges,
-                &masks,
-            ),
+        ForRust {
+            unit: self,
+            left,
+            masks: self.skip.as_chunks::<4>().0.to_vec(),
+            luma: wider(&self.luma_plane),
+            luma_top: wider(&self.luma_top),
+            luma_bottom: wider(&self.luma_bottom),
+            narrow: self.narrow(),
+            wide: self.wide(),
         }
-        plane
+    }
+
+    /// The filters of luma, user and chroma units.
+    pub fn narrow(&self) -> Vec<i8> {
+        self.filters.iter().map(|&c| c as i8).collect()
+    }
+
+    /// The filters of pretrained units.
+    pub fn wide(&self) -> Vec<i16> {
+        self.filters.iter().map(|&c| c as i16).collect()
     }
 
     /// The rectangle of a plane, row by row.
@@ -350,5 +330,106 @@ impl Unit {
             .flat_map(|y| &plane[self.off + y * self.stride..][..self.w])
             .copied()
             .collect()
+    }
+}
+
+/// A unit with its lists as the Rust takes them.
+pub(crate) struct ForRust<'a> {
+    unit: &'a Unit,
+    left: Vec<[u8; 6]>,
+    masks: Vec<[u16; 4]>,
+    luma: Vec<u8>,
+    luma_top: Vec<u8>,
+    luma_bottom: Vec<u8>,
+    narrow: Vec<i8>,
+    wide: Vec<i16>,
+}
+
+impl ForRust<'_> {
+    /// Restores the unit in a plane.
+    pub fn restore(&self, exec: &ExecContext, plane: &mut [u8]) {
+        let u = self.unit;
+        match u.op {
+            Operation::Luma => ns_wiener_single_y_8bpc(
+                exec,
+                plane,
+                u.off,
+                u.stride,
+                &self.left,
+                &u.top,
+                u.top_off,
+                &u.bottom,
+                u.bottom_off,
+                u.w,
+                u.h,
+                self.narrow.as_array::<16>().expect("16 numbers"),
+                u.edges,
+                &self.masks,
+            ),
+            Operation::User => ns_wiener_multi_8bpc(
+                exec,
+                plane,
+                u.off,
+                u.stride,
+                &self.left,
+                &u.top,
+                u.top_off,
+                &u.bottom,
+                u.bottom_off,
+                u.w,
+                u.h,
+                self.narrow.as_chunks::<18>().0,
+                &u.subclass,
+                &u.noskip,
+                u.q,
+                u.edges,
+                &self.masks,
+            ),
+            Operation::Pretrained => pc_wiener_8bpc(
+                exec,
+                plane,
+                u.off,
+                u.stride,
+                &self.left,
+                &u.top,
+                u.top_off,
+                &u.bottom,
+                u.bottom_off,
+                u.w,
+                u.h,
+                self.wide.as_chunks::<13>().0,
+                &u.subclass,
+                &u.noskip,
+                u.q,
+                u.edges,
+                &self.masks,
+            ),
+            Operation::Chroma => ns_wiener_single_uv_8bpc(
+                exec,
+                plane,
+                u.off,
+                u.stride,
+                &self.left,
+                &u.top,
+                u.top_off,
+                &u.bottom,
+                u.bottom_off,
+                u.w,
+                u.h,
+                self.narrow.as_array::<18>().expect("18 numbers"),
+                &self.luma,
+                u.luma_off,
+                u.luma_stride,
+                &self.luma_top,
+                u.luma_top_off,
+                &self.luma_bottom,
+                u.luma_bottom_off,
+                u.ss_hor,
+                u.ss_ver,
+                u.kind as i32,
+                u.edges,
+                &self.masks,
+            ),
+        }
     }
 }

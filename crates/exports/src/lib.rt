@@ -1,4 +1,5 @@
-// The leaves for programs in C or Rust: each function hands on what it is lent, and promises what the leaf promises.
+// The leaves and the whole units for programs in C or Rust: each function hands on what it is lent, and promises what
+// the function promises that it calls.
 // A slice is a pointer and a length, an array one pointer.
 ghost use mathlib.Core.Path.{_≡_};
 ghost use lib.ListN.{length};
@@ -6,9 +7,15 @@ ghost use Rattle.definition.specs.ClassIndex.{term, classIndex};
 ghost use Rattle.definition.specs.Refusals.{classStatus};
 ghost use Rattle.class_index.specs.Answers.{termStatus, orZero, orZeroZ, blockFlat};
 ghost use Rattle.padding.specs.Padded.{backupStatus, backupRow, lpfStatus, lpfRow, lumaStatus, lumaRow, source};
+ghost use Rattle.definition.specs.Units.{luma, user, pretrained, chroma};
+ghost use Rattle.units.specs.Openings.{Whole};
+ghost use Rattle.units.specs.Chroma.{chromaLent, numbersC};
+ghost use Rattle.units.specs.Classed.{classedLent};
+ghost use Rattle.units.specs.Luma.{lumaLent, numbersY};
 ghost use Rattle.filter.specs.Runs.{runStatus, uvStatus, lumaRun, pretrainedRun, chromaRun};
 use class_index::ClassIndex;
 use class_index::Qval;
+use units::Restored;
 
 #[no_mangle]
 pub extern "C" fn gihvendu_ns_wiener_fir_run(
@@ -147,4 +154,180 @@ pub extern "C" fn gihvendu_get_class_lut_idx_8bpc(
 {
     let ix = *indices;
     class_index::get_class_lut_idx_8bpc(rows, ix, noskip, base_q, bx, by, bh)
+}
+
+#[no_mangle]
+pub extern "C" fn gihvendu_ns_wiener_single_y_8bpc(
+    p: &mut [u8],
+    p_off: usize,
+    stride: usize,
+    left: &[u8],
+    lpf: &[u8],
+    lpf_off: usize,
+    lpf_bottom: &[u8],
+    lpf_bottom_off: usize,
+    w: usize,
+    h: usize,
+    filter: &[i8],
+    edges: usize,
+    skip: &[u16],
+) -> Restored
+    ensures { λ r. ⌜ Whole luma r (numbersY w h edges stride «p_off» «lpf_off» «lpf_bottom_off») (lumaLent (now (left .entry)) (now (lpf .entry)) (now («lpf_bottom» .entry)) (now (filter .entry)) (now (skip .entry))) (now (p .entry)) (now (p .exit)) ⌝ }
+{
+    units::ns_wiener_single_y_8bpc(
+        p,
+        p_off,
+        stride,
+        left,
+        lpf,
+        lpf_off,
+        lpf_bottom,
+        lpf_bottom_off,
+        w,
+        h,
+        filter,
+        edges,
+        skip,
+    )
+}
+
+#[no_mangle]
+pub extern "C" fn gihvendu_ns_wiener_multi_8bpc(
+    p: &mut [u8],
+    p_off: usize,
+    stride: usize,
+    left: &[u8],
+    lpf: &[u8],
+    lpf_off: usize,
+    lpf_bottom: &[u8],
+    lpf_bottom_off: usize,
+    w: usize,
+    h: usize,
+    filters: &[i8],
+    map: &[u8],
+    subclass: &[u8],
+    noskip: &[u16],
+    base_q: i32,
+    edges: usize,
+    skip: &[u16],
+) -> Restored
+    ensures { λ r. ⌜ Whole user r (numbersY w h edges stride «p_off» «lpf_off» «lpf_bottom_off») (classedLent (now (left .entry)) (now (lpf .entry)) (now («lpf_bottom» .entry)) (now (filters .entry)) (now (map .entry)) (now (subclass .entry)) (now (noskip .entry)) (now (skip .entry)) «base_q») (now (p .entry)) (now (p .exit)) ⌝ }
+{
+    units::ns_wiener_multi_8bpc(
+        p,
+        p_off,
+        stride,
+        left,
+        lpf,
+        lpf_off,
+        lpf_bottom,
+        lpf_bottom_off,
+        w,
+        h,
+        filters,
+        map,
+        subclass,
+        noskip,
+        base_q,
+        edges,
+        skip,
+    )
+}
+
+#[no_mangle]
+pub extern "C" fn gihvendu_pc_wiener_8bpc(
+    p: &mut [u8],
+    p_off: usize,
+    stride: usize,
+    left: &[u8],
+    lpf: &[u8],
+    lpf_off: usize,
+    lpf_bottom: &[u8],
+    lpf_bottom_off: usize,
+    w: usize,
+    h: usize,
+    filters: &[i16],
+    map: &[u8],
+    subclass: &[u8],
+    noskip: &[u16],
+    base_q: i32,
+    edges: usize,
+    skip: &[u16],
+) -> Restored
+    ensures { λ r. ⌜ Whole pretrained r (numbersY w h edges stride «p_off» «lpf_off» «lpf_bottom_off») (classedLent (now (left .entry)) (now (lpf .entry)) (now («lpf_bottom» .entry)) (now (filters .entry)) (now (map .entry)) (now (subclass .entry)) (now (noskip .entry)) (now (skip .entry)) «base_q») (now (p .entry)) (now (p .exit)) ⌝ }
+{
+    units::pc_wiener_8bpc(
+        p,
+        p_off,
+        stride,
+        left,
+        lpf,
+        lpf_off,
+        lpf_bottom,
+        lpf_bottom_off,
+        w,
+        h,
+        filters,
+        map,
+        subclass,
+        noskip,
+        base_q,
+        edges,
+        skip,
+    )
+}
+
+#[no_mangle]
+pub extern "C" fn gihvendu_ns_wiener_single_uv_8bpc(
+    p: &mut [u8],
+    p_off: usize,
+    stride: usize,
+    left: &[u8],
+    lpf: &[u8],
+    lpf_off: usize,
+    lpf_bottom: &[u8],
+    lpf_bottom_off: usize,
+    w: usize,
+    h: usize,
+    filter: &[i8],
+    luma: &[u8],
+    luma_off: usize,
+    lstride: usize,
+    luma_top: &[u8],
+    luma_top_off: usize,
+    luma_bottom: &[u8],
+    luma_bottom_off: usize,
+    ss_hor: usize,
+    ss_ver: usize,
+    ds_flt: usize,
+    edges: usize,
+    skip: &[u16],
+) -> Restored
+    ensures { λ r. ⌜ Whole chroma r (numbersC w h edges stride lstride «p_off» «lpf_off» «lpf_bottom_off» «luma_off» «luma_top_off» «luma_bottom_off» «ss_hor» «ss_ver» «ds_flt») (chromaLent (now (left .entry)) (now (lpf .entry)) (now («lpf_bottom» .entry)) (now (filter .entry)) (now (luma .entry)) (now («luma_top» .entry)) (now («luma_bottom» .entry)) (now (skip .entry))) (now (p .entry)) (now (p .exit)) ⌝ }
+{
+    units::ns_wiener_single_uv_8bpc(
+        p,
+        p_off,
+        stride,
+        left,
+        lpf,
+        lpf_off,
+        lpf_bottom,
+        lpf_bottom_off,
+        w,
+        h,
+        filter,
+        luma,
+        luma_off,
+        lstride,
+        luma_top,
+        luma_top_off,
+        luma_bottom,
+        luma_bottom_off,
+        ss_hor,
+        ss_ver,
+        ds_flt,
+        edges,
+        skip,
+    )
 }
