@@ -278,7 +278,7 @@ pub extern "C" fn gihvendu_pc_wiener_8bpc(
 }
 
 #[no_mangle]
-pub extern "C" fn gihvendu_ns_wiener_single_uv_8bpc(
+pub extern "C" fn gihvendu_ns_wiener_single_uv_8bpc<'a>(
     p: &mut [u8],
     p_off: usize,
     stride: usize,
@@ -290,12 +290,12 @@ pub extern "C" fn gihvendu_ns_wiener_single_uv_8bpc(
     w: usize,
     h: usize,
     filter: &[i8],
-    luma: &[u8],
+    luma: &'a [u8],
     luma_off: usize,
     lstride: usize,
-    luma_top: &[u8],
+    luma_top: &'a [u8],
     luma_top_off: usize,
-    luma_bottom: &[u8],
+    luma_bottom: &'a [u8],
     luma_bottom_off: usize,
     ss_hor: usize,
     ss_ver: usize,

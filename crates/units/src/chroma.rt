@@ -146,12 +146,12 @@ fn slide_both(indices: &mut [usize; 10])
 }
 
 // The newest luma row of the window: into the next slot, or the row before it again.
-fn fetch_luma_row(
+fn fetch_luma_row<'a>(
     g: Numbers,
     done: usize,
-    luma: &[u8],
-    luma_top: &[u8],
-    luma_bottom: &[u8],
+    luma: &'a [u8],
+    luma_top: &'a [u8],
+    luma_bottom: &'a [u8],
     rows: &mut [u8; 1080],
     indices: &mut [usize; 10],
     next: usize,
@@ -171,7 +171,7 @@ fn fetch_luma_row(
 }
 
 // One row: the newest row of each window is padded, the row is restored, the windows move on. The next slot is handed back.
-fn row(
+fn row<'a>(
     g: Numbers,
     done: usize,
     p: &mut [u8],
@@ -179,9 +179,9 @@ fn row(
     top: &[u8],
     bottom: &[u8],
     filter: &[i8; 18],
-    luma: &[u8],
-    luma_top: &[u8],
-    luma_bottom: &[u8],
+    luma: &'a [u8],
+    luma_top: &'a [u8],
+    luma_bottom: &'a [u8],
     skip: &[u16],
     rows: &mut [u8; 1080],
     indices: &mut [usize; 10],
@@ -203,7 +203,7 @@ fn row(
 }
 
 // The rows of an advance that is not refused.
-pub fn advanced(
+pub fn advanced<'a>(
     s: State,
     count: usize,
     p: &mut [u8],
@@ -211,9 +211,9 @@ pub fn advanced(
     top: &[u8],
     bottom: &[u8],
     filter: &[i8],
-    luma: &[u8],
-    luma_top: &[u8],
-    luma_bottom: &[u8],
+    luma: &'a [u8],
+    luma_top: &'a [u8],
+    luma_bottom: &'a [u8],
     skip: &[u16],
 ) -> Advanced
     requires { ⌜ Admitted s (length (now p)) (length (now left)) (length (now top)) (length (now bottom)) (length (now filter)) (length (now luma)) (length (now «luma_top»)) (length (now «luma_bottom»)) (length (now skip)) ⌝ }
@@ -276,15 +276,15 @@ fn open_indices(g: Numbers) -> [usize; 10]
 }
 
 // The state of a unit that is not declined, before its first row, whatever the filter and the masks are.
-fn first_state(
+fn first_state<'a>(
     g: Numbers,
     p: &[u8],
     left: &[u8],
     top: &[u8],
     bottom: &[u8],
-    luma: &[u8],
-    luma_top: &[u8],
-    luma_bottom: &[u8],
+    luma: &'a [u8],
+    luma_top: &'a [u8],
+    luma_bottom: &'a [u8],
 ) -> State
     requires { ⌜ BothLie (givenOf g) (length (now p)) (length (now left)) (length (now top)) (length (now bottom)) (length (now luma)) (length (now «luma_top»)) (length (now «luma_bottom»)) ⌝ }
     ensures { λ r. ⌜ ((f : List ℤ) (k : List ℕ) → r ≡ Openings.openState chroma g (chromaLent (now (left .entry)) (now (top .entry)) (now (bottom .entry)) f (now (luma .entry)) (now («luma_top» .entry)) (now («luma_bottom» .entry)) k) (now (p .entry))) ⌝ }
@@ -304,16 +304,16 @@ fn first_state(
 }
 
 // An opening with these numbers.
-pub fn open(
+pub fn open<'a>(
     g: Numbers,
     p: &[u8],
     left: &[u8],
     top: &[u8],
     bottom: &[u8],
     filter: &[i8],
-    luma: &[u8],
-    luma_top: &[u8],
-    luma_bottom: &[u8],
+    luma: &'a [u8],
+    luma_top: &'a [u8],
+    luma_bottom: &'a [u8],
     skip: &[u16],
 ) -> Opened
     ensures { λ r. ⌜ Openings.Begun chroma r g (chromaLent (now (left .entry)) (now (top .entry)) (now (bottom .entry)) (now (filter .entry)) (now (luma .entry)) (now («luma_top» .entry)) (now («luma_bottom» .entry)) (now (skip .entry))) (now (p .entry)) ⌝ }

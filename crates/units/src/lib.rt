@@ -212,7 +212,7 @@ impl State {
     }
 
     // The next count rows of a chroma unit, or all that remain.
-    pub fn advance_c(
+    pub fn advance_c<'a>(
         self,
         count: usize,
         p: &mut [u8],
@@ -220,9 +220,9 @@ impl State {
         lpf: &[u8],
         lpf_bottom: &[u8],
         filter: &[i8],
-        luma: &[u8],
-        luma_top: &[u8],
-        luma_bottom: &[u8],
+        luma: &'a [u8],
+        luma_top: &'a [u8],
+        luma_bottom: &'a [u8],
         skip: &[u16],
     ) -> Advanced
         ensures { λ r. ⌜ Answered r (now (p .exit)) (answer (callOf chroma count (chromaLent (now (left .entry)) (now (lpf .entry)) (now («lpf_bottom» .entry)) (now (filter .entry)) (now (luma .entry)) (now («luma_top» .entry)) (now («luma_bottom» .entry)) (now (skip .entry)))) self (now (p .entry))) ⌝ }
@@ -559,7 +559,7 @@ pub fn pc_wiener_8bpc(
 }
 
 // A chroma unit, opened over a plane that is not written.
-pub fn open_c(
+pub fn open_c<'a>(
     p: &[u8],
     p_off: usize,
     stride: usize,
@@ -571,12 +571,12 @@ pub fn open_c(
     w: usize,
     h: usize,
     filter: &[i8],
-    luma: &[u8],
+    luma: &'a [u8],
     luma_off: usize,
     lstride: usize,
-    luma_top: &[u8],
+    luma_top: &'a [u8],
     luma_top_off: usize,
-    luma_bottom: &[u8],
+    luma_bottom: &'a [u8],
     luma_bottom_off: usize,
     ss_hor: usize,
     ss_ver: usize,
@@ -617,7 +617,7 @@ pub fn open_c(
 }
 
 // A whole chroma unit.
-pub fn ns_wiener_single_uv_8bpc(
+pub fn ns_wiener_single_uv_8bpc<'a>(
     p: &mut [u8],
     p_off: usize,
     stride: usize,
@@ -629,12 +629,12 @@ pub fn ns_wiener_single_uv_8bpc(
     w: usize,
     h: usize,
     filter: &[i8],
-    luma: &[u8],
+    luma: &'a [u8],
     luma_off: usize,
     lstride: usize,
-    luma_top: &[u8],
+    luma_top: &'a [u8],
     luma_top_off: usize,
-    luma_bottom: &[u8],
+    luma_bottom: &'a [u8],
     luma_bottom_off: usize,
     ss_hor: usize,
     ss_ver: usize,

@@ -10,6 +10,7 @@ ghost use Rattle.model.specs.Opening.{filledRows};
 ghost use Rattle.model.specs.LumaRows.{lumaPadRow};
 ghost use Rattle.units.specs.States.{givenOf};
 ghost use Rattle.units.specs.Chroma.{lumaRowsLent, LumaLie};
+ghost use Rattle.padding.specs.Padded.{source};
 ghost use Rattle.units.specs.LumaFrom.{LumaFits, lumaFrom};
 use crate::Numbers;
 use crate::rows::first_row;
@@ -26,20 +27,27 @@ fn scaled(n: usize, ss: usize) -> usize
     n * 2
 }
 
-// The luma row that starts at a byte, with the one a stride below it where it is read, padded.
-fn row_from(g: Numbers, src: &[u8], at: usize, stride: usize) -> [u8; 140]
+// The luma row that starts at a byte of the plane or of a saved border, with the one a stride below it where it is read, padded.
+fn row_from<'a>(
+    g: Numbers,
+    luma: &'a [u8],
+    saved: &'a [u8],
+    from_saved: bool,
+    at: usize,
+    stride: usize,
+) -> [u8; 140]
     requires { ⌜ (g .w ≤ 64) × (g .«ss_hor» ≤ 1) ⌝ }
-    requires { ⌜ LumaFits (givenOf g) (length (now src)) at stride ⌝ }
-    ensures { λ row. ⌜ row ≡ lumaFrom (givenOf g) (now (src .entry)) at stride ⌝ }
+    requires { ⌜ LumaFits (givenOf g) (length (source «from_saved» (now luma) (now saved))) at stride ⌝ }
+    ensures { λ row. ⌜ row ≡ lumaFrom (givenOf g) (source «from_saved» (now (luma .entry)) (now (saved .entry))) at stride ⌝ }
 {
     let mut row = [0u8; 140];
     let w = scaled(g.w, g.ss_hor);
     padding::backup_row_luma_8bpc(
         &mut row,
         6,
-        src,
-        src,
-        false,
+        luma,
+        saved,
+        from_saved,
         at,
         stride,
         w,
@@ -52,21 +60,28 @@ fn row_from(g: Numbers, src: &[u8], at: usize, stride: usize) -> [u8; 140]
 }
 
 // The luma plane's rows beside row y of the unit.
-fn plane_row(g: Numbers, luma: &[u8], y: usize) -> [u8; 140]
+fn plane_row<'a>(g: Numbers, luma: &'a [u8], saved: &'a [u8], y: usize) -> [u8; 140]
     requires { ⌜ (g .w ≤ 64) × (g .«ss_hor» ≤ 1) × (g .«ss_ver» ≤ 1) × (y ≤ 66) ⌝ }
     requires { ⌜ LumaFits (givenOf g) (length (now luma)) (g .«luma_off» + y * 2 ^ g .«ss_ver» * g .«luma_stride») (g .«luma_stride») ⌝ }
     ensures { λ row. ⌜ row ≡ lumaFrom (givenOf g) (now (luma .entry)) (g .«luma_off» + y * 2 ^ g .«ss_ver» * g .«luma_stride») (g .«luma_stride») ⌝ }
 {
     let first = scaled(y, g.ss_ver);
-    row_from(g, luma, g.luma_off + first * g.luma_stride, g.luma_stride)
+    row_from(
+        g,
+        luma,
+        saved,
+        false,
+        g.luma_off + first * g.luma_stride,
+        g.luma_stride,
+    )
 }
 
 // The luma row beside row y of the unit, or below it. The saved rows above are named by the contract alone.
-fn lower_luma_row(
+fn lower_luma_row<'a>(
     g: Numbers,
-    luma: &[u8],
-    luma_top: &[u8],
-    luma_bottom: &[u8],
+    luma: &'a [u8],
+    luma_top: &'a [u8],
+    luma_bottom: &'a [u8],
     y: usize,
 ) -> [u8; 140]
     requires { ⌜ LumaLie (givenOf g) (length (now luma)) (length (now «luma_top»)) (length (now «luma_bottom»)) ⌝ }
@@ -74,26 +89,33 @@ fn lower_luma_row(
     ensures { λ row. ⌜ row ≡ lumaPadRow (givenOf g) (lumaRowsLent (now (luma .entry)) (now («luma_top» .entry)) (now («luma_bottom» .entry))) (y + 2) ⌝ }
 {
     if y < g.h {
-        return plane_row(g, luma, y);
+        return plane_row(g, luma, luma_bottom, y);
     }
     if is_set(g.edges, 32) {
-        return plane_row(g, luma, y);
+        return plane_row(g, luma, luma_bottom, y);
     }
     if is_set(g.edges, 8) {
         if y == g.h {
-            return row_from(g, luma_bottom, g.luma_bottom_off, g.luma_stride);
+            return row_from(g, luma, luma_bottom, true, g.luma_bottom_off, g.luma_stride);
         }
-        return row_from(g, luma_bottom, g.luma_bottom_off + g.luma_stride, 0);
+        return row_from(
+            g,
+            luma,
+            luma_bottom,
+            true,
+            g.luma_bottom_off + g.luma_stride,
+            0,
+        );
     }
-    plane_row(g, luma, g.h - 1)
+    plane_row(g, luma, luma_bottom, g.h - 1)
 }
 
 // The luma row beside row r - 2, above the unit. The saved rows below are named by the contract alone.
-fn upper_luma_row(
+fn upper_luma_row<'a>(
     g: Numbers,
-    luma: &[u8],
-    luma_top: &[u8],
-    luma_bottom: &[u8],
+    luma: &'a [u8],
+    luma_top: &'a [u8],
+    luma_bottom: &'a [u8],
     r: usize,
 ) -> [u8; 140]
     requires { ⌜ LumaLie (givenOf g) (length (now luma)) (length (now «luma_top»)) (length (now «luma_bottom»)) ⌝ }
@@ -102,23 +124,30 @@ fn upper_luma_row(
 {
     if is_set(g.edges, 16) {
         let back = scaled(2 - r, g.ss_ver);
-        return row_from(g, luma, g.luma_off - back * g.luma_stride, g.luma_stride);
+        return row_from(
+            g,
+            luma,
+            luma_top,
+            false,
+            g.luma_off - back * g.luma_stride,
+            g.luma_stride,
+        );
     }
     if r == 0 {
-        return row_from(g, luma_top, g.luma_top_off, 0);
+        return row_from(g, luma, luma_top, true, g.luma_top_off, 0);
     }
     if g.ss_ver == 0 {
-        return row_from(g, luma_top, g.luma_top_off + g.luma_stride, 0);
+        return row_from(g, luma, luma_top, true, g.luma_top_off + g.luma_stride, 0);
     }
-    row_from(g, luma_top, g.luma_top_off, g.luma_stride)
+    row_from(g, luma, luma_top, true, g.luma_top_off, g.luma_stride)
 }
 
 // The luma row beside chroma row r - 2, padded.
-pub fn padded_luma_row(
+pub fn padded_luma_row<'a>(
     g: Numbers,
-    luma: &[u8],
-    luma_top: &[u8],
-    luma_bottom: &[u8],
+    luma: &'a [u8],
+    luma_top: &'a [u8],
+    luma_bottom: &'a [u8],
     r: usize,
 ) -> [u8; 140]
     requires { ⌜ LumaLie (givenOf g) (length (now luma)) (length (now «luma_top»)) (length (now «luma_bottom»)) ⌝ }
@@ -145,11 +174,11 @@ pub fn put_luma_row(rows: &mut [u8; 1080], slot: usize, row: [u8; 140])
 }
 
 // The chroma rows as they are, and behind them the luma rows that an opening pads.
-pub fn open_luma_rows(
+pub fn open_luma_rows<'a>(
     g: Numbers,
-    luma: &[u8],
-    luma_top: &[u8],
-    luma_bottom: &[u8],
+    luma: &'a [u8],
+    luma_top: &'a [u8],
+    luma_bottom: &'a [u8],
     rows: &mut [u8; 1080],
 )
     requires { ⌜ LumaLie (givenOf g) (length (now luma)) (length (now «luma_top»)) (length (now «luma_bottom»)) ⌝ }

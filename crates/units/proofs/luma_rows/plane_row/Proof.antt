@@ -16,7 +16,7 @@ scaled-requires c κs = search needs
 
 mul-row-from : tie.Need-mul-row-from
 mul-row-from c =
-    let s = c .before .before .before in
+    let s = c .before .before .before .before in
     let e = c .before .scaled .ensures in
     let a = s .args in
     let h : a .g .«luma_off» + c .before .scaled .result * a .g .«luma_stride» ≤ length (now (a .luma)) = rw e (at-inside (givenOf (a .g)) _ _ _ (s .pre .1)) in
@@ -24,7 +24,7 @@ mul-row-from c =
 
 add-row-from : tie.Need-add-row-from
 add-row-from c =
-    let s = c .before .before .before .before in
+    let s = c .before .before .before .before .before in
     let e = c .before .before .scaled .ensures in
     let a = s .args in
     let h : a .g .«luma_off» + c .before .before .scaled .result * a .g .«luma_stride» ≤ length (now (a .luma)) = rw e (at-inside (givenOf (a .g)) _ _ _ (s .pre .1)) in
@@ -32,12 +32,12 @@ add-row-from c =
 
 row-from-requires : tie.Need-row-from-requires
 row-from-requires c κs =
-    let s = c .before .before .before .before in
+    let s = c .before .before .before .before .before in
     ((s .pre .0 .0, s .pre .0 .1), rw (c .before .before .scaled .ensures) (s .pre .1))
 
 returns : tie.Need-returns
 returns c =
-    let a = c .before .before .before .before .before .args in
+    let a = c .before .before .before .before .before .before .args in
     c .row-from .ensures ∙
     ap (λ (n : ℕ). lumaFrom (givenOf (a .g)) (now (a .luma)) (a .g .«luma_off» + n * a .g .«luma_stride») (a .g .«luma_stride»)) (c .before .before .before .scaled .ensures)
 

@@ -17,7 +17,7 @@ backup-row-luma-8bpc-requires c κs = search needs
 
 returns : tie.Need-returns
 returns c =
-    let s = c .before .before .before .before .before in
+    let s = c .before .before .before .before .before .before in
     c .before .backup-row-luma-8bpc .ensures .1 ∙ from-served (givenOf (s .args .g)) _ _ _ (c .before .before .before .scaled .ensures) (s .pre .1)
 
 pub row-from-spec : {M : Type 1} → statement M
