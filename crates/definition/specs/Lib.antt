@@ -7,3 +7,4 @@ pub mod Padding
 pub mod Blocks
 pub mod Units
 pub mod Refusals
+pub mod Card

@@ -1,6 +1,5 @@
--- Document 01's starred samples that concern the leaves: what the definition gives beside what document 01 says, one table under one proof that antt computes.
--- The card joins the table with the card program. Assumes nothing.
-use mathlib.Core.Bool.{Bool, true, cond, _&&_}
+-- Document 01's starred samples: what the definition gives beside what document 01 says, one table under one proof that antt computes. Assumes nothing.
+use mathlib.Core.Bool.{Bool, true, false, cond, _&&_}
 use mathlib.Core.List.{List, [], _∷_}
 use mathlib.Core.Path.{_≡_, refl}
 use Prim.Native.Nat.{ℕ, zero, suc, _+_, _*_, _%_, _/_}
@@ -11,15 +10,27 @@ use Rattle.definition.specs.Numbers.{sumZ, sumN}
 use Rattle.definition.specs.Sample.{limit8, rounded, lumaSum, lumaSample, pretrainedSample}
 use Rattle.definition.specs.ClassIndex.{term, bin, feature, skipSum, indexOf, classIndex}
 use Rattle.definition.specs.Padding.{mixed}
+use Rattle.definition.specs.Blocks.{clearBelow, piecesOf}
+use Rattle.definition.specs.Units.{sampleAt, classOf, finalSample}
+use Rattle.definition.specs.Card.{ascii, several, wordAt, decimalOf, decimalAt, tapAt, pairAt, groupAt, sizeAt, filterAt, skipAt, rowAt, rowsAt, meaningOfLists, meaning, restoredPlane, filtered, decimalText, rowText, rowsText, lineText, printed, cardAnswer}
 
 -- what was worked out, and what document 01 says
 infix 20 _is_
+infix 20 _prints_
 data Sample : Type 0 where
   _is_ : ℕ → ℕ → Sample
+  _prints_ : List ℕ → List ℕ → Sample
+
+same : List ℕ → List ℕ → Bool
+same [] [] = true
+same [] (y ∷ ys) = false
+same (x ∷ xs) [] = false
+same (x ∷ xs) (y ∷ ys) = eqb x y && same xs ys
 
 agree : List Sample → Bool
 agree [] = true
 agree ((got is said) ∷ rest) = eqb got said && agree rest
+agree ((got prints said) ∷ rest) = same got said && agree rest
 
 -- a window of samples that differ from place to place: 77 in the centre
 window : ℤ → ℤ → ℕ
@@ -65,6 +76,9 @@ none = replicate 16 0
 
 table : List Sample
 table =
+    -- the card
+    (cardAnswer (ascii "op=y\nw=4\nh=4\nedges=0\nfilter=64,0,0,0,0,0,0,0,0,0,0,0,0,0,0,0\nskip=0000\nrow=0a0a0a0a\nrow=14141414\nrow=28282828\nrow=50505050\n") prints
+    ascii "status=0\nfiltered=4\nrow=0f0f0f0f\nrow=19191919\nrow=32323232\nrow=3c3c3c3c\n") ∷
     -- zero luma filter: sample kept
     (lumaSample limit8 window zeros is 77) ∷
     -- zero pretrained set: sample 0; c13 = 128: kept
@@ -91,5 +105,5 @@ table =
     []
 
 starred : agree table ≡ true
-unfolding agree table window below dark flat zeros first centreOnly ones none sumZ sumN rounded term bin feature skipSum indexOf
+unfolding agree same table several wordAt decimalOf decimalAt tapAt pairAt groupAt sizeAt filterAt skipAt rowAt rowsAt meaningOfLists meaning restoredPlane filtered decimalText rowText rowsText lineText printed cardAnswer clearBelow piecesOf sampleAt classOf finalSample window below dark flat zeros first centreOnly ones none sumZ sumN rounded term bin feature skipSum indexOf
 starred = refl

@@ -1,0 +1,85 @@
+-- Rows that are read one behind the other stand one behind the other in a plane. Assumes nothing.
+use mathlib.Core.Path.{_≡_, refl, sym, ap, _∙_, subst}
+use mathlib.Core.List.{List, [], _∷_, _++_, append-assoc, append-nil}
+use Prim.Native.Nat.{ℕ, zero, suc, _+_, _*_, _-_, _≤_, _<_}
+use native.Mathlib.Nat.{zero-mul, add-mul, one-mul, mul-le-mul-right, mul-le-mul}
+use native.Mathlib.Omega.{arith}
+use lib.ListN.{length, take, drop, length-append, length-drop}
+use lib.Seq.{drop-drop, length-take-le}
+use borrow.Rule.Slice.PartMut.{putMid}
+use Rattle.definition.specs.Card.{Reading, value, wrong, several, rowAt, rowsAt, joined}
+use Rattle.laws.proofs.Cards.{several-none, several-wrong, several-more, several-ends, Local, longer, row-local, itself}
+use Rattle.card_reader.specs.Answers.{joins}
+use Rattle.card_reader.specs.declared.Line.{Line}
+use Rattle.card_reader.specs.declared.Line.the-variants.{Next, Wrong as LineWrong}
+use Rattle.card_reader.proofs.Places.{front, behind}
+
+joined-more : (rows : List (List ℕ)) (row : List ℕ) → joined (rows ++ (row ∷ [])) ≡ joined rows ++ row
+joined-more [] row = append-nil row
+joined-more (r ∷ rows) row = ap (λ l. r ++ l) (joined-more rows row) ∙ sym (append-assoc r (joined rows) row)
+
+-- y rows of w samples were read, and the next starts at a place
+pub record Joined (s : List ℕ) (w at : ℕ) (p₀ p : List ℕ) (next y : ℕ) : Type 0 where
+  pub rows : List (List ℕ)
+  pub values : several (λ k. rowAt s w) y at ≡ value rows next
+  pub long : length (joined rows) ≡ y * w
+  pub plane : p ≡ joined rows ++ drop (y * w) p₀
+
+module _ (s : List ℕ) (w at : ℕ) (p₀ : List ℕ) where
+  pub joined-begins : Joined s w at p₀ p₀ at 0
+  joined-begins = record { rows = []; values = several-none (λ k. rowAt s w) at; long = sym (zero-mul w); plane = rw (zero-mul w) }
+
+  module _ (p : List ℕ) (next y : ℕ) (j : Joined s w at p₀ p next y) where
+    pub joined-size : y * w ≤ length p₀ → length p ≡ length p₀
+    joined-size h =
+        ap length (j .plane) ∙ length-append (joined (j .rows)) (drop (y * w) p₀) ∙
+        omega (arith, j .long, length-drop (y * w) p₀)
+
+    -- row y was lent as the part of the plane behind those that were read
+    module _ (row : List ℕ) (size : length row ≡ w) where
+      put : putMid (y * w) (y * w + w - y * w) p row ≡ joined (j .rows ++ (row ∷ [])) ++ drop ((y + 1) * w) p₀
+      put =
+          let k : y * w + w - y * w ≡ w = omega arith in
+          let m : (y + 1) * w ≡ y * w + w = omega (arith, add-mul y 1 w, one-mul w) in
+          rw (k, j .plane, front (joined (j .rows)) (drop (y * w) p₀) (y * w) (j .long), behind (joined (j .rows)) (drop (y * w) p₀) (y * w) (j .long), joined-more (j .rows) row, drop-drop w (y * w) p₀, m)
+          (sym (append-assoc (joined (j .rows)) row _))
+
+      pub joined-next : (q : ℕ) → rowAt s w next ≡ value row q → Joined s w at p₀ (putMid (y * w) (y * w + w - y * w) p row) q (y + 1)
+      joined-next q e =
+          record {
+            rows = j .rows ++ (row ∷ []);
+            values = several-more (λ k. rowAt s w) at y next q (j .rows) row (j .values) e;
+            long = ap length (joined-more (j .rows) row) ∙ length-append (joined (j .rows)) row ∙ omega (arith, j .long, size, add-mul y 1 w, one-mul w);
+            plane = put;
+          }
+
+    pub joined-stops : (h : ℕ) (q : List ℕ) → y < h → rowAt s w next ≡ wrong → joins (rowsAt s w h at) LineWrong p₀ q
+    unfolding rowsAt
+    joined-stops h q l e = rw (several-wrong (λ k. rowAt s w) at h y next (j .rows) l (j .values) e) tt
+
+    pub joined-ends : (h : ℕ) → y ≡ h → joins (rowsAt s w h at) (Next next) p₀ p
+    unfolding rowsAt
+    joined-ends h e = rw (sym e, j .values) (refl, rw (j .long) (j .plane))
+
+    pub joined-near : w ≤ 64 → next ≤ at + y * 133
+    joined-near h =
+        several-ends 133 (λ k. rowAt s w) (λ k. longer 0 {m = 4 + (w * 2 + 1)} {k = 133} (omega arith) (row-local 0 s s (itself s) w)) y at (j .values)
+
+-- row y of at most 64 rows of w samples lies in 4,096
+pub room : (y w h : ℕ) → y < h → w ≤ 64 → h ≤ 64 → y * w + w ≤ 4096
+room y w h a b c =
+    let m : y + 1 ≤ 64 = omega arith in
+    let k : (y + 1) * w ≤ 64 * 64 = mul-le-mul m b in
+    omega (arith, add-mul y 1 w, one-mul w, k)
+
+pub rows-room : (y w h : ℕ) → y ≤ h → w ≤ 64 → h ≤ 64 → y * w ≤ 4096
+rows-room y w h a b c =
+    let m : y ≤ 64 = omega arith in
+    let k : y * w ≤ 64 * 64 = mul-le-mul m b in
+    omega (arith, k)
+
+-- the part of a plane that is lent for it is w long
+pub part-long : (y w : ℕ) (p : List ℕ) → y * w + w ≤ length p → length (take (y * w + w - y * w) (drop (y * w) p)) ≡ w
+part-long y w p h =
+    let k : y * w + w - y * w ≡ w = omega arith in
+    rw k (length-take-le w (drop (y * w) p) (omega (arith, length-drop (y * w) p)))
