@@ -38,7 +38,7 @@ module _ (x : Reading (List (List ℕ))) (p q : List ℕ) (r : Line) (j : joins 
   fallen e = fell x p q (rw e at j)
 
 -- zeros behind a list
-drop-zeros {ℓ} : {A : Type ℓ} (k n : ℕ) (a : A) → drop k (replicate n a) ≡ replicate (n - k) a
+pub drop-zeros {ℓ} : {A : Type ℓ} (k n : ℕ) (a : A) → drop k (replicate n a) ≡ replicate (n - k) a
 drop-zeros zero n a = rw (sub-zero n)
 drop-zeros (suc k) zero a = rw (zero-sub (suc k))
 drop-zeros (suc k) (suc n) a = rw (suc-sub-suc n k) (drop-zeros k n a)

@@ -64,22 +64,3 @@ module _ (s : List ℕ) (w at : ℕ) (p₀ : List ℕ) where
     pub joined-near : w ≤ 64 → next ≤ at + y * 133
     joined-near h =
         several-ends 133 (λ k. rowAt s w) (λ k. longer 0 {m = 4 + (w * 2 + 1)} {k = 133} (omega arith) (row-local 0 s s (itself s) w)) y at (j .values)
-
--- row y of at most 64 rows of w samples lies in 4,096
-pub room : (y w h : ℕ) → y < h → w ≤ 64 → h ≤ 64 → y * w + w ≤ 4096
-room y w h a b c =
-    let m : y + 1 ≤ 64 = omega arith in
-    let k : (y + 1) * w ≤ 64 * 64 = mul-le-mul m b in
-    omega (arith, add-mul y 1 w, one-mul w, k)
-
-pub rows-room : (y w h : ℕ) → y ≤ h → w ≤ 64 → h ≤ 64 → y * w ≤ 4096
-rows-room y w h a b c =
-    let m : y ≤ 64 = omega arith in
-    let k : y * w ≤ 64 * 64 = mul-le-mul m b in
-    omega (arith, k)
-
--- the part of a plane that is lent for it is w long
-pub part-long : (y w : ℕ) (p : List ℕ) → y * w + w ≤ length p → length (take (y * w + w - y * w) (drop (y * w) p)) ≡ w
-part-long y w p h =
-    let k : y * w + w - y * w ≡ w = omega arith in
-    rw k (length-take-le w (drop (y * w) p) (omega (arith, length-drop (y * w) p)))

@@ -6,14 +6,14 @@ use mathlib.Core.Logic.{_≢_}
 use mathlib.Core.Bool.{Bool, true, false, cond, not, _&&_, _||_}
 use mathlib.Core.List.{List, [], _∷_, _++_}
 use Prim.Native.Nat.{ℕ, zero, suc, _+_, _-_, _*_, _/_, _%_, _≤_, _<_}
-use native.Mathlib.Nat.{le-refl, not-suc-le-zero}
+use native.Mathlib.Nat.{le-refl, not-suc-le-zero, add-mul, one-mul, mul-le-mul}
 use native.Mathlib.Numerals.{add-one}
 use native.Mathlib.Omega.{arith}
 use borrow.Author.Tests.{ne-eqb, eqb-true, eqb-false, leb-true, not-false, leb-false}
 use lib.Dec.{ltb, leb, eqb}
 use lib.IntN.{ℤ, pos, negsuc}
-use lib.ListN.{length, getD, set, take, length-take, length-set}
-use lib.Seq.{take-all, getD-take, take-suc-set}
+use lib.ListN.{length, getD, set, take, drop, length-take, length-set, length-drop}
+use lib.Seq.{take-all, getD-take, take-suc-set, length-take-le}
 use Rattle.laws.proofs.Passes.{both}
 use Rattle.definition.specs.Blocks.{side}
 use Rattle.definition.specs.Refusals.{widthLimit, heightLimit, sized}
@@ -372,3 +372,23 @@ module _ {A : Type 0} (f : ℕ → ℕ → Reading A) (at : ℕ) (l₀ : List A)
 
     pub filling-near : (m : ℕ) → ((k : ℕ) → Local 0 m (f k) (f k)) → next ≤ at + k * m
     filling-near m h = several-ends m f h k at (i .values)
+
+-- ROWS IN A PLANE
+-- row y of at most 64 rows of w samples lies in 4,096
+pub room : (y w h : ℕ) → y < h → w ≤ 64 → h ≤ 64 → y * w + w ≤ 4096
+room y w h a b c =
+    let m : y + 1 ≤ 64 = omega arith in
+    let k : (y + 1) * w ≤ 64 * 64 = mul-le-mul m b in
+    omega (arith, add-mul y 1 w, one-mul w, k)
+
+pub rows-room : (y w h : ℕ) → y ≤ h → w ≤ 64 → h ≤ 64 → y * w ≤ 4096
+rows-room y w h a b c =
+    let m : y ≤ 64 = omega arith in
+    let k : y * w ≤ 64 * 64 = mul-le-mul m b in
+    omega (arith, k)
+
+-- the part of a plane that is lent for it is w long
+pub part-long : (y w : ℕ) (p : List ℕ) → y * w + w ≤ length p → length (take (y * w + w - y * w) (drop (y * w) p)) ≡ w
+part-long y w p h =
+    let k : y * w + w - y * w ≡ w = omega arith in
+    rw k (length-take-le w (drop (y * w) p) (omega (arith, length-drop (y * w) p)))

@@ -8,7 +8,8 @@ use lib.Seq.{length-take-le}
 use borrow.Rule.Slice.PartMut.{same-len-mid}
 use Rattle.definition.specs.Card.{rowAt, value, wrong}
 use Rattle.card_reader.proofs.Places.{line-found, line-missed}
-use Rattle.card_reader.proofs.Planes.{Joined, joined-begins, joined-size, joined-next, joined-stops, joined-ends, joined-near, room, rows-room, part-long}
+use Rattle.card_reader.proofs.Planes.{Joined, joined-begins, joined-size, joined-next, joined-stops, joined-ends, joined-near}
+use Rattle.laws.proofs.Cards.{room, rows-room, part-long}
 use Rattle.card_reader.proofs.read_rows.Statement.{statement}
 use Rattle.card_reader.proofs.read_rows.Tie as tie
 use Rattle.card_reader.proofs.read_rows.Reads as reads

@@ -1,0 +1,4 @@
+pub mod Texts
+pub mod Restorations
+pub mod Fine
+pub mod Answered

@@ -1,0 +1,96 @@
+-- A card's unit is never declined, and what the whole-unit operation leaves is the plane that the definition gives. Assumes nothing.
+use mathlib.Core.Path.{_≡_, refl, sym, ap, _∙_}
+use mathlib.Core.Bool.{Bool, true, false, cond, not, _&&_}
+use mathlib.Core.List.{List, [], _∷_, _++_}
+use Prim.Native.Nat.{ℕ, zero, suc, _+_, _-_, _*_, _/_, _%_, _≤_, _<_}
+use native.Mathlib.Nat.{add-zero, zero-add, mod-lt, div-add-mod', div-lt-iff-lt-mul, mul-comm, sub-add-cancel, suc-mul, mul-le-mul}
+use native.Mathlib.Numerals.{add-one}
+use native.Mathlib.Omega.{arith}
+use borrow.Author.Tests.{le-ltb, lt-ltb, le-leb, leb-true, eqb-true, eq-eqb}
+use lib.Dec.{ltb, leb, eqb}
+use lib.IntN.{ℤ}
+use lib.ListN.{length, getD, take, drop}
+use lib.Seq.{ext-getD}
+use Rattle.definition.specs.Rows.{tab}
+use Rattle.definition.specs.Blocks.{side, piecesOf}
+use Rattle.definition.specs.Units.{luma, finalSample}
+use Rattle.definition.specs.Refusals.{sized, widthLimit, heightLimit, outside, unitStatus, unitChecks, sizesOf}
+use Rattle.laws.proofs.Passes.{both}
+use Rattle.laws.proofs.Lists.{length-tab, getD-tab}
+use Rattle.laws.proofs.Checks.{cleared}
+use Rattle.laws.proofs.Cards.{sized-le}
+use Rattle.units.specs.States.{givenOf}
+use Rattle.units.specs.Luma.{lumaLent, numbersY}
+use Rattle.units.specs.Openings.{openStatus, Final, Whole}
+use Rattle.units.specs.declared.Restored.{Restored}
+use Rattle.card_answer.specs.Answers.{planeOf}
+
+sized-low : (limit n : ℕ) → sized limit n ≡ true → side ≤ n
+sized-low limit n h = leb-true side n (both (eqb (n % side) 0) (leb side n) (both (eqb (n % side) 0 && leb side n) (leb n limit) h .0) .1)
+
+-- h rows of w samples, w apart, lie inside a plane that is as large as they are
+inside : (w h len : ℕ) → 0 < h → w * h ≤ len → outside len 0 w h w 0 0 ≡ false
+inside w zero len l s = refl
+inside w (suc h) len l s = le-ltb len (0 + h * w + w + 0) (omega (arith, mul-comm w (suc h), suc-mul h w))
+
+module _ (w h : ℕ) (filter : List ℤ) (skip plane : List ℕ) (ow : sized widthLimit w ≡ true) (oh : sized heightLimit h ≡ true) where
+  pub accepted : length filter ≡ 16 → length skip ≡ 64 → w * h ≤ length plane → openStatus luma (numbersY w h 0 w 0 0 0) (lumaLent [] [] [] filter skip) plane ≡ 0
+  unfolding unitStatus
+  accepted f k p =
+      let lw : w ≤ 64 = sized-le widthLimit w ow in
+      let lh : h ≤ 64 = sized-le heightLimit h oh in
+      let gh : 4 ≤ h = sized-low heightLimit h oh in
+      cleared (unitChecks luma (givenOf (numbersY w h 0 w 0 0 0)) (sizesOf luma (lumaLent [] [] [] filter skip) plane)) (
+        rw ow,
+        (
+          rw oh,
+          (
+            rw (add-zero w, le-ltb w w (omega arith), le-ltb 65536 w (omega arith)),
+            (
+              refl,
+              (
+                rw (add-zero h) (inside w h (length plane) (omega arith) p),
+                (
+                  refl,
+                  (
+                    refl,
+                    (
+                      refl,
+                      (rw (k, le-ltb 64 h lh), (rw f, (refl, tt))),
+                    ),
+                  ),
+                ),
+              ),
+            ),
+          ),
+        ),
+      )
+
+-- samples given by row and column, as a list
+plane-is : (w h : ℕ) (q : List ℕ) (f : ℕ → ℕ → ℕ) → 0 < w → length q ≡ w * h → ((y x : ℕ) → y < h → x < w → getD q (0 + y * w + x) 0 ≡ f y x) →
+    q ≡ tab (w * h) (λ i. f (i / w) (i % w))
+plane-is w h q f pw size here =
+    ext-getD 0 q (tab (w * h) (λ i. f (i / w) (i % w))) (size ∙ sym (length-tab (w * h) _)) (λ i l.
+    let il : i < w * h = omega (arith, size) in
+    let row : i / w < h = div-lt-iff-lt-mul pw .1 (omega (arith, mul-comm w h)) in
+    let e : 0 + i / w * w + i % w ≡ i = omega (arith, div-add-mod' i w) in
+    ap (λ k. getD q k 0) (sym e) ∙ here (i / w) (i % w) row (mod-lt i pw) ∙ sym (getD-tab (w * h) (λ i. f (i / w) (i % w)) i il))
+
+module _ (w h : ℕ) (filter : List ℤ) (skip p q : List ℕ) (r : Restored) (ow : sized widthLimit w ≡ true) (oh : sized heightLimit h ≡ true)
+    (f : length filter ≡ 16) (k : length skip ≡ 64) (size : length p ≡ w * h) (o : Whole luma r (numbersY w h 0 w 0 0 0) (lumaLent [] [] [] filter skip) p q) where
+  zero-status : openStatus luma (numbersY w h 0 w 0 0 0) (lumaLent [] [] [] filter skip) p ≡ 0
+  zero-status = accepted w h filter skip p ow oh f k (omega (arith, size))
+
+  pub restored-pieces : r .pieces ≡ piecesOf skip (w / side) 0 h
+  restored-pieces = o .pieces zero-status
+
+  pub restored-plane : q ≡ planeOf w h filter skip p
+  unfolding planeOf
+  restored-plane =
+      let l = o .plane zero-status in
+      let gw : 4 ≤ w = sized-low widthLimit w ow in
+      plane-is w h q (λ y x. finalSample (givenOf (numbersY w h 0 w 0 0 0)) (lumaLent [] [] [] filter skip) p luma y x) (omega arith) (l .size ∙ size) (l .here)
+
+pub plane-long : (w h : ℕ) (filter : List ℤ) (skip plane : List ℕ) → length (planeOf w h filter skip plane) ≡ w * h
+unfolding planeOf
+plane-long w h filter skip plane = length-tab (w * h) _

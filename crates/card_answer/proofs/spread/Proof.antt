@@ -1,0 +1,72 @@
+use Rattle.card_answer.proofs.Texts.{stored-more}
+use borrow.Author.Needs.{needs}
+use mathlib.Core.Path.{_≡_, refl, sym, _∙_, ap}
+use native.Mathlib.Omega.{arith}
+use Prim.Native.Nat.{ℕ, _+_, _-_, _≤_, _/_, _%_}
+use mathlib.Core.Bool.{cond}
+use lib.Dec.{eqb}
+use lib.ListN.{getD, replicate}
+use lib.Seq.{sets}
+use Rattle.definition.specs.Rows.{tab}
+use Rattle.laws.proofs.Lists.{sets-more, sets-all}
+use Rattle.card_answer.proofs.spread.Statement.{statement}
+use Rattle.card_answer.proofs.spread.Tie as tie
+use Rattle.card_answer.proofs.spread.Reads as reads
+use Rattle.card_answer.proofs.spread.Lts as lts
+use Rattle.card_answer.proofs.skip_at.Reads as skip-at-reads
+
+abbrev Inv-loop : tie.InvT-loop
+Inv-loop skip r₀ i₀ r i = (i ≤ 64) × (r ≡ sets (replicate 64 0) 0 (tab i (λ k. cond (eqb (k % 4) 0) (getD skip (k / 4) 0) 0)))
+
+abbrev μ-loop : tie.MeasureT-loop
+μ-loop skip r₀ i₀ r i = 64 - i
+
+-- src/rt:38:5
+loop-holds : tie.Need-loop-holds Inv-loop μ-loop
+loop-holds c = (omega arith, refl)
+
+-- src/rt:39:16
+skip-at-requires : tie.Need-skip-at-requires Inv-loop μ-loop
+skip-at-requires c κs = c .loop-test .taken
+
+-- src/rt:39:9
+mul-r : tie.Need-mul-r Inv-loop μ-loop
+mul-r c = record { fits = omega (arith, c .before .loop-test .taken) }
+
+-- src/rt:39:9
+array-write-r : tie.Need-array-write-r Inv-loop μ-loop
+array-write-r c = c .before .loop-test .taken
+
+-- src/rt:40:9
+add-i : tie.Need-add-i Inv-loop μ-loop
+add-i c = record { fits = omega (arith, c .before .loop-test .taken) }
+
+-- src/rt:38:5
+loop-less : tie.Need-loop-less Inv-loop μ-loop
+loop-less c = omega (arith, c .before .loop-test .taken)
+
+-- src/rt:38:5
+loop-again : tie.Need-loop-again Inv-loop μ-loop
+loop-again c = let l = c .before .before .loop in (omega (arith, c .before .loop-test .taken), stored-more _ _ (l .i) _ _ (l .inv .1) (c .skip-at .ensures))
+
+-- src/rt:33:1
+returns : tie.Need-returns Inv-loop μ-loop
+returns c =
+    let l = c .before .loop in
+    let e : l .i ≡ 64 = omega (arith, l .inv .0, c .loop-test .left) in
+    rw e at (l .inv .1)
+
+pub spread-spec : {M : Type 1} → statement M
+spread-spec =
+    tie.close
+    (tie.spec
+    Inv-loop
+    μ-loop
+    loop-holds
+    skip-at-requires
+    mul-r
+    array-write-r
+    add-i
+    loop-less
+    loop-again
+    returns)
