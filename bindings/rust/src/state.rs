@@ -50,11 +50,10 @@ impl State {
         self.0.done
     }
 
-    /// Takes over what an advance answers, unless it is a refusal.
+    /// Takes over what an advance answers. A refusal hands the state back as it came: that is proved of the library.
     fn step(&mut self, answer: Advanced) -> Result<Pieces, Refusal> {
-        Refusal::check(answer.status)?;
         self.0 = answer.state;
-        Ok(answer.pieces)
+        Refusal::check(answer.status).map(|()| answer.pieces)
     }
 
     /// Opens a luma unit. The plane is not written.
