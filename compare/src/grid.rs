@@ -63,7 +63,7 @@ fn quantizer(r: &mut Random, k: usize) -> i32 {
     *QUANTIZERS.get(k % 9).unwrap_or(&drawn)
 }
 
-/// How the lists lie: the stride at its limit, a little above, far above, and for the smallest units at its greatest;
+/// How the lists lie: the stride at its limit, a little above, far above, and for the smallest units both at their greatest;
 /// offsets from 0 and from far inside.
 fn spacing(k: usize, small: bool, subsampling: (usize, usize, usize)) -> Spacing {
     Spacing {

@@ -144,16 +144,35 @@ fn outside_kept(
     expected == after
 }
 
-/// A small unit whose lists end where they may, or little further.
-fn draw(r: &mut Random, op: Operation) -> Unit {
-    let size = |r: &mut Random| [4, 8, 12, 64][r.below(4)];
+/// A unit whose lists end where they may, or little further. `far`: of the least size and the greatest strides.
+fn draw(r: &mut Random, op: Operation, far: bool) -> Unit {
+    let size = |r: &mut Random| if far { 4 } else { [4, 8, 12, 64][r.below(4)] };
     let (w, h) = (size(r), size(r));
     let (edges, room) = (r.below(64) as u8, 1 + r.below(4));
     let spacing = Spacing {
         room,
+        stride: far.then_some(65_536),
         ..Spacing::default()
     };
     Unit::spaced(r, op, edges, w, h, spacing)
+}
+
+/// A state with one number at its limit, and one past it.
+fn state_limit(u: &Unit, opened: &exports::State, k: usize) -> (exports::State, exports::State) {
+    let (mut at, mut past) = (opened.clone(), opened.clone());
+    let rows = if u.op == Operation::Chroma { 5 } else { 10 };
+    match k % 4 {
+        0 => (at.done, past.done) = (u.h, u.h + 1),
+        1 => (at.next, past.next) = ((rows - 1).min(8), rows.min(9)),
+        2 => (at.indices[k / 4 % 10], past.indices[k / 4 % 10]) = (rows - 1, rows),
+        _ if u.op.classed() => {
+            let sets = u.filters.len() / if u.op == Operation::User { 18 } else { 13 };
+            let class = k / 4 % 16;
+            (at.classes[class], past.classes[class]) = (sets as u8 - 1, sets as u8);
+        }
+        _ => past.op = k / 4 % 6,
+    }
+    (at, past)
 }
 
 /// The unit moved by single steps as far as it is not refused, and one step further.
@@ -190,13 +209,17 @@ pub(crate) fn compare(seed: u64, count: usize) -> bool {
         let (mut limits, mut whole) = (Tally::default(), Tally::default());
         let (mut open, mut advance) = (Tally::default(), Tally::default());
         for k in 0..count {
-            let u = draw(&mut run.r, op);
             let knob = KNOBS[k % KNOBS.len()];
+            let far = matches!(knob, Knob::Stride | Knob::LumaStride) && run.r.once_in(4);
+            let u = draw(&mut run.r, op, far);
             for (at, past) in [-1, 1].into_iter().filter_map(|by| limit(&u, knob, by)) {
                 run.whole(&mut limits, &at);
                 run.whole(&mut limits, &past);
             }
             let opened = calls::open(&u).state;
+            let (at, past) = state_limit(&u, &opened, k);
+            run.advance(&mut limits, &u, at);
+            run.advance(&mut limits, &u, past);
             let mut disturbed = u;
             for _ in 0..1 + run.r.below(2) {
                 disturb::unit(&mut run.r, &mut disturbed);

@@ -91,7 +91,7 @@ struct Rows {
 }
 
 /// How the lists of a unit lie: its stride is less than `room` over the least one, and no list's offset is under `first`.
-/// What is not drawn: the stride, and the pair and kind of a chroma unit.
+/// Where they are given, both strides are not drawn but are this, nor the pair and kind of a chroma unit.
 #[derive(Clone, Copy, Default)]
 pub(crate) struct Spacing {
     pub room: usize,
@@ -225,11 +225,12 @@ impl Unit {
         let v = 1 << ss_ver;
         let one_less = usize::from(ss_ver == 1 && kind == 2);
         let luma_row = (w << ss_hor) + beside(1, 4);
-        let luma_stride = match (chroma, r.below(6)) {
+        let drawn = match (chroma, r.below(6)) {
             (false, _) => r.below(9),
             (true, 0) => r.below(8),
             (true, _) => luma_row + r.below(6),
         };
+        let luma_stride = spacing.stride.unwrap_or(drawn);
         let above = beside(4, 2 * v) * luma_stride + beside(0, 4);
         let luma_rows = if chroma {
             v * (h + beside(5, 2)) - one_less
