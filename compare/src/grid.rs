@@ -69,7 +69,7 @@ fn spacing(k: usize, small: bool, subsampling: (usize, usize, usize)) -> Spacing
     Spacing {
         room: [1, 4, 100][k % 3],
         first: [0, 0, 5, 1_000][k % 4],
-        stride: (small && k % 7 == 0).then_some(65_536),
+        stride: (small && k.is_multiple_of(7)).then_some(65_536),
         subsampling: Some(subsampling),
     }
 }

@@ -25,6 +25,7 @@
 //!                                   overwritten rows, against the Rust's one call
 //!     compare refusals SEED COUNT   units and states at the limits of the table and past them, against a second reading of
 //!                                   the table
+//!     compare differences           the intended differences, each at a smallest input
 //!     compare bench                 nanoseconds of the Rust's scalar functions and of the port's
 
 #[cfg(feature = "linked")]
@@ -35,6 +36,8 @@ mod bench;
 mod bench_units;
 #[cfg(feature = "linked")]
 mod calls;
+#[cfg(feature = "linked")]
+mod differences;
 #[cfg(feature = "linked")]
 mod disturb;
 #[cfg(feature = "linked")]
@@ -50,6 +53,7 @@ mod runs;
 mod stand_ins;
 #[cfg(feature = "linked")]
 mod table;
+#[cfg_attr(not(feature = "linked"), allow(dead_code))]
 mod units;
 mod vectors;
 #[cfg(feature = "linked")]
@@ -65,7 +69,7 @@ include!(concat!(env!("OUT_DIR"), "/reference.rs"));
 
 fn usage() -> ! {
     eprintln!(
-        "usage: compare vectors | leaves | units | advances | refusals SEED COUNT, grid SEED, bench"
+        "usage: compare vectors | leaves | units | advances | refusals SEED COUNT, grid SEED, differences, bench"
     );
     std::process::exit(2);
 }
@@ -74,14 +78,23 @@ fn number<T: std::str::FromStr>(word: &str) -> T {
     word.parse().unwrap_or_else(|_| usage())
 }
 
+/// A seed, said again in the output.
+#[cfg(feature = "linked")]
+fn printed(word: &str) -> u64 {
+    let seed = number(word);
+    println!("seed {seed}");
+    seed
+}
+
 #[cfg(feature = "linked")]
 fn linked(words: &[&str]) {
     let same = match words {
-        ["leaves", seed, count] => leaves::compare(number(seed), number(count)),
-        ["grid", seed] => grid::compare(number(seed)),
-        ["units", seed, count] => whole::compare(number(seed), number(count)),
-        ["advances", seed, count] => advances::compare(number(seed), number(count)),
-        ["refusals", seed, count] => refusals::compare(number(seed), number(count)),
+        ["leaves", seed, count] => leaves::compare(printed(seed), number(count)),
+        ["grid", seed] => grid::compare(printed(seed)),
+        ["units", seed, count] => whole::compare(printed(seed), number(count)),
+        ["advances", seed, count] => advances::compare(printed(seed), number(count)),
+        ["refusals", seed, count] => refusals::compare(printed(seed), number(count)),
+        ["differences"] => differences::compare(),
         ["bench"] => {
             bench::run();
             bench_units::run();

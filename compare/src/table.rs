@@ -143,7 +143,7 @@ fn filters_wrong(u: &Unit) -> bool {
             u.map.len() != 4096
                 || u.map.iter().any(|&c| usize::from(c) >= u.subclass.len())
                 || u.subclass.iter().any(|&s| usize::from(s) >= sets)
-                || u.filters.len() % set(u.op) != 0
+                || !u.filters.len().is_multiple_of(set(u.op))
         }
     }
 }
@@ -151,7 +151,7 @@ fn filters_wrong(u: &Unit) -> bool {
 /// The status of a unit with these numbers that is lent what `u` lends: what an opening and a whole unit answer.
 pub(crate) fn unit_status(n: &Numbers, u: &Unit) -> u8 {
     let chroma = u.op == Operation::Chroma;
-    let size = |v: usize| (4..=64).contains(&v) && v % 4 == 0;
+    let size = |v: usize| (4..=64).contains(&v) && v.is_multiple_of(4);
     let right = if has(n, RIGHT) { u.op.border() } else { 0 };
     let luma = |list, off, bytes: &Vec<u8>| luma_outside(n, list, off, bytes.len());
     let own = |list, off, bytes: &Vec<u8>| own_outside(u.op, n, list, off, bytes.len());

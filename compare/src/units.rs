@@ -332,22 +332,29 @@ impl Unit {
         plane
     }
 
-    /// The lists in the Rust's types. The Rust indexes `left` without the left bit too, and in kind 0 one luma column too
-    /// many: it is lent those.
-    pub fn for_rust(&self) -> ForRust<'_> {
-        let mut left: Vec<[u8; 6]> = self.left.as_chunks::<6>().0.to_vec();
-        left.resize(self.h, [171; 6]);
-        let wider = |bytes: &[u8]| [bytes, &[211]].concat();
+    /// The lists in the Rust's types, with no more than the unit lends.
+    pub fn as_lent(&self) -> ForRust<'_> {
         ForRust {
             unit: self,
-            left,
+            left: self.left.as_chunks::<6>().0.to_vec(),
             masks: self.skip.as_chunks::<4>().0.to_vec(),
-            luma: wider(&self.luma_plane),
-            luma_top: wider(&self.luma_top),
-            luma_bottom: wider(&self.luma_bottom),
+            luma: self.luma_plane.clone(),
+            luma_top: self.luma_top.clone(),
+            luma_bottom: self.luma_bottom.clone(),
             narrow: self.narrow(),
             wide: self.wide(),
         }
+    }
+
+    /// The lists in the Rust's types. The Rust indexes `left` without the left bit too, and in kind 0 one luma column too
+    /// many: it is lent those.
+    pub fn for_rust(&self) -> ForRust<'_> {
+        let mut lent = self.as_lent();
+        lent.left.resize(self.h, [171; 6]);
+        for luma in [&mut lent.luma, &mut lent.luma_top, &mut lent.luma_bottom] {
+            luma.push(211);
+        }
+        lent
     }
 
     /// The filters of luma, user and chroma units.

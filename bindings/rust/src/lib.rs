@@ -14,6 +14,7 @@
 //! Where tealdust would panic, or where a number is off its limit, a [`Refusal`] comes back and no byte is written. Nested
 //! lists are handed over flat: `left.as_flattened()`, `ll_mask.as_flattened()`.
 
+mod call;
 pub mod exports;
 mod lent;
 mod refusal;

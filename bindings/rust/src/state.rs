@@ -1,3 +1,4 @@
+use crate::call::call;
 use crate::exports::{self, Advanced, Opened};
 use crate::{Borders, Classes, Luma, LumaUnit, Pieces, Refusal, Unit};
 
@@ -77,22 +78,7 @@ impl State {
         filter: &[i8],
         skip: &[u16],
     ) -> Result<State, Refusal> {
-        let (u, b) = (unit, borders);
-        opened(exports::gihvendu_open_y(
-            plane,
-            u.off,
-            u.stride,
-            b.left,
-            b.top,
-            u.top_off,
-            b.bottom,
-            u.bottom_off,
-            u.w,
-            u.h,
-            filter,
-            u.edges,
-            skip,
-        ))
+        opened(call!(gihvendu_open_y, plane, unit, borders, skip, filter filter))
     }
 
     /// Restores the next `count` rows of a luma unit, or all that remain. The example of [`State`] shows it.
@@ -118,26 +104,7 @@ impl State {
         classes: &Classes<'_, i8>,
         skip: &[u16],
     ) -> Result<State, Refusal> {
-        let (u, b, c) = (unit, borders, classes);
-        opened(exports::gihvendu_open_n(
-            plane,
-            u.off,
-            u.stride,
-            b.left,
-            b.top,
-            u.top_off,
-            b.bottom,
-            u.bottom_off,
-            u.w,
-            u.h,
-            c.filters,
-            c.map,
-            c.subclass,
-            c.noskip,
-            c.base_q,
-            u.edges,
-            skip,
-        ))
+        opened(call!(gihvendu_open_n, plane, unit, borders, skip, classes classes))
     }
 
     /// Restores the next `count` rows of a unit with user sets, or all that remain.
@@ -182,26 +149,7 @@ impl State {
         classes: &Classes<'_, i16>,
         skip: &[u16],
     ) -> Result<State, Refusal> {
-        let (u, b, c) = (unit, borders, classes);
-        opened(exports::gihvendu_open_p(
-            plane,
-            u.off,
-            u.stride,
-            b.left,
-            b.top,
-            u.top_off,
-            b.bottom,
-            u.bottom_off,
-            u.w,
-            u.h,
-            c.filters,
-            c.map,
-            c.subclass,
-            c.noskip,
-            c.base_q,
-            u.edges,
-            skip,
-        ))
+        opened(call!(gihvendu_open_p, plane, unit, borders, skip, classes classes))
     }
 
     /// Restores the next `count` rows of a unit with pretrained sets, or all that remain.
@@ -244,32 +192,9 @@ impl State {
         luma: &Luma<'_>,
         skip: &[u16],
     ) -> Result<State, Refusal> {
-        let (u, b, l) = (unit, borders, luma_unit);
-        opened(exports::gihvendu_open_c(
-            plane,
-            u.off,
-            u.stride,
-            b.left,
-            b.top,
-            u.top_off,
-            b.bottom,
-            u.bottom_off,
-            u.w,
-            u.h,
-            filter,
-            luma.plane,
-            l.off,
-            l.stride,
-            luma.top,
-            l.top_off,
-            luma.bottom,
-            l.bottom_off,
-            l.ss_hor,
-            l.ss_ver,
-            l.kind,
-            u.edges,
-            skip,
-        ))
+        opened(
+            call!(gihvendu_open_c, plane, unit, borders, skip, filter filter, luma luma_unit, luma),
+        )
     }
 
     /// Restores the next `count` rows of a chroma unit, or all that remain.

@@ -1,3 +1,4 @@
+use crate::call::call;
 use crate::exports::{self, Restored};
 use crate::{Borders, Classes, Luma, LumaUnit, Pieces, Refusal, Unit};
 
@@ -27,22 +28,7 @@ pub fn ns_wiener_single_y_8bpc(
     filter: &[i8],
     skip: &[u16],
 ) -> Result<Pieces, Refusal> {
-    let (u, b) = (unit, borders);
-    pieces(exports::gihvendu_ns_wiener_single_y_8bpc(
-        plane,
-        u.off,
-        u.stride,
-        b.left,
-        b.top,
-        u.top_off,
-        b.bottom,
-        u.bottom_off,
-        u.w,
-        u.h,
-        filter,
-        u.edges,
-        skip,
-    ))
+    pieces(call!(gihvendu_ns_wiener_single_y_8bpc, plane, unit, borders, skip, filter filter))
 }
 
 /// Restores a unit with user sets in place of tealdust's function of this name.
@@ -68,26 +54,7 @@ pub fn ns_wiener_multi_8bpc(
     classes: &Classes<'_, i8>,
     skip: &[u16],
 ) -> Result<Pieces, Refusal> {
-    let (u, b, c) = (unit, borders, classes);
-    pieces(exports::gihvendu_ns_wiener_multi_8bpc(
-        plane,
-        u.off,
-        u.stride,
-        b.left,
-        b.top,
-        u.top_off,
-        b.bottom,
-        u.bottom_off,
-        u.w,
-        u.h,
-        c.filters,
-        c.map,
-        c.subclass,
-        c.noskip,
-        c.base_q,
-        u.edges,
-        skip,
-    ))
+    pieces(call!(gihvendu_ns_wiener_multi_8bpc, plane, unit, borders, skip, classes classes))
 }
 
 /// Restores a unit with pretrained sets in place of tealdust's function of this name.
@@ -111,26 +78,7 @@ pub fn pc_wiener_8bpc(
     classes: &Classes<'_, i16>,
     skip: &[u16],
 ) -> Result<Pieces, Refusal> {
-    let (u, b, c) = (unit, borders, classes);
-    pieces(exports::gihvendu_pc_wiener_8bpc(
-        plane,
-        u.off,
-        u.stride,
-        b.left,
-        b.top,
-        u.top_off,
-        b.bottom,
-        u.bottom_off,
-        u.w,
-        u.h,
-        c.filters,
-        c.map,
-        c.subclass,
-        c.noskip,
-        c.base_q,
-        u.edges,
-        skip,
-    ))
+    pieces(call!(gihvendu_pc_wiener_8bpc, plane, unit, borders, skip, classes classes))
 }
 
 /// Restores a chroma unit in place of tealdust's function of this name. `filter` has 18 numbers: 6 for chroma, 12 for luma.
@@ -160,32 +108,9 @@ pub fn ns_wiener_single_uv_8bpc(
     luma: &Luma<'_>,
     skip: &[u16],
 ) -> Result<Pieces, Refusal> {
-    let (u, b, l) = (unit, borders, luma_unit);
-    pieces(exports::gihvendu_ns_wiener_single_uv_8bpc(
-        plane,
-        u.off,
-        u.stride,
-        b.left,
-        b.top,
-        u.top_off,
-        b.bottom,
-        u.bottom_off,
-        u.w,
-        u.h,
-        filter,
-        luma.plane,
-        l.off,
-        l.stride,
-        luma.top,
-        l.top_off,
-        luma.bottom,
-        l.bottom_off,
-        l.ss_hor,
-        l.ss_ver,
-        l.kind,
-        u.edges,
-        skip,
-    ))
+    pieces(
+        call!(gihvendu_ns_wiener_single_uv_8bpc, plane, unit, borders, skip, filter filter, luma luma_unit, luma),
+    )
 }
 
 /// The class index of block (`bx`, `by`) of a unit with `bh` block rows. `rows` are ten of 76 bytes, the unit's first
