@@ -141,10 +141,13 @@ fn history(t: &mut Tally, r: &mut Random, exec: &ExecContext, u: &Unit) -> bool 
     };
     let mut history = History::new(u, &restored, opened.clone());
     let mut good = begun.kept && history.told();
-    // Some lists end before the unit is finished; others go on after it.
+    // Some lists end before the unit is finished; others go on after it for a while.
     let steps = 1 + r.below(2 * u.h + 8);
     let slow = r.once_in(2);
     for _ in 0..steps {
+        if history.done == u.h && r.once_in(4) {
+            break;
+        }
         good &= match r.below(8) {
             0 | 1 => {
                 t.refused += 1;

@@ -170,7 +170,8 @@ fn state_limit(u: &Unit, opened: &exports::State, k: usize) -> (exports::State, 
             let class = k / 4 % 16;
             (at.classes[class], past.classes[class]) = (sets as u8 - 1, sets as u8);
         }
-        _ => past.op = k / 4 % 6,
+        // any number but the operation's own, which is one more than its place
+        _ => past.op = (u.op as usize + 2 + k / 4 % 5) % 6,
     }
     (at, past)
 }
