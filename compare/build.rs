@@ -1,5 +1,4 @@
-//! Writes the declarations of the three reference modules, by the paths of the files in the folder TEALDUST_SRC, and with
-//! the feature `linked` tells where the static library of the port is.
+//! Writes the declarations of the three reference modules, by the paths of the files in the folder TEALDUST_SRC.
 
 use std::path::{Path, PathBuf};
 use std::{env, fs, process};
@@ -35,7 +34,6 @@ fn find(folder: &Path, module: &str) -> PathBuf {
 fn main() {
     println!("cargo::rerun-if-changed=build.rs");
     println!("cargo::rerun-if-env-changed=TEALDUST_SRC");
-    println!("cargo::rerun-if-env-changed=GIHVENDU_LIB");
 
     let Some(folder) = env::var_os("TEALDUST_SRC") else {
         stop(
@@ -54,18 +52,4 @@ fn main() {
     }
     let out = PathBuf::from(env::var_os("OUT_DIR").expect("cargo sets OUT_DIR"));
     fs::write(out.join("reference.rs"), text).expect("OUT_DIR can be written");
-
-    if env::var_os("CARGO_FEATURE_LINKED").is_some() {
-        let Some(folder) = env::var_os("GIHVENDU_LIB") else {
-            stop("The feature linked needs GIHVENDU_LIB, the folder that has libexports.a.")
-        };
-        let folder = fs::canonicalize(&folder).unwrap_or(PathBuf::from(folder));
-        let archive = folder.join("libexports.a");
-        if !archive.is_file() {
-            stop(&format!("There is no {}.", archive.display()));
-        }
-        println!("cargo::rerun-if-changed={}", archive.display());
-        println!("cargo::rustc-link-search=native={}", folder.display());
-        println!("cargo::rustc-link-lib=static=exports");
-    }
 }

@@ -3,20 +3,18 @@
 use std::hint::black_box;
 use std::time::Instant;
 
+use gihvendu::exports;
+
 use crate::exec_context::ExecContext;
 use crate::looprestoration::{backup_row_8bpc, backup_row_luma_8bpc};
-use crate::port;
 use crate::random::Random;
 use crate::runs::{self, CHROMA_ROWS, ROW, ROWS};
-use crate::tables::PC_WIENER_LUT_TO_CLASS;
-use crate::units::{ForRust, OPERATIONS, Unit};
-use crate::whole::{self, ForPort};
 
 /// Inputs that a batch goes through in turn, runs to a batch, and batches. A batch is short against the time that a
 /// scheduler gives, so that some are not disturbed on a busy machine.
 const CASES: usize = 64;
 const RUNS: usize = 4 * CASES;
-const BATCHES: usize = 800;
+pub(crate) const BATCHES: usize = 800;
 
 /// The rows' first sample.
 const ORIGIN: usize = 6;
@@ -87,65 +85,23 @@ fn measure(
     least
 }
 
-fn line(name: &str, n: usize, (rust, port): (f64, f64)) {
+pub(crate) fn line(name: &str, n: usize, (rust, port): (f64, f64)) {
     println!(
         "{name:<22}{n:>6}{rust:>12.1}{port:>12.1}{:>12.3}",
         port / rust
     );
 }
 
-/// Whole units of 64 by 64 samples with no masks and all edge bits but the integrated ones, restored from their first
-/// samples in each batch.
-fn units(exec: &ExecContext) {
-    const UNITS: usize = 8;
-    const EDGES: u8 = 15;
-    for op in OPERATIONS {
-        let mut r = Random::new(11);
-        let mut units: Vec<Unit> = (0..UNITS)
-            .map(|_| Unit::sized(&mut r, op, EDGES, 64, 64))
-            .collect();
-        for u in &mut units {
-            u.skip.fill(0);
-        }
-        let by_rust: Vec<ForRust<'_>> = units.iter().map(Unit::for_rust).collect();
-        let by_port: Vec<ForPort<'_>> = units
-            .iter()
-            .map(|u| ForPort::new(u, &PC_WIENER_LUT_TO_CLASS))
-            .collect();
-        let planes: Vec<Vec<u8>> = units.iter().map(|u| u.plane.clone()).collect();
-        let mut planes = (planes.clone(), planes);
-        let mut least = (f64::MAX, f64::MAX);
-        for _ in 0..BATCHES {
-            for (k, u) in units.iter().enumerate() {
-                planes.0[k].copy_from_slice(&u.plane);
-                planes.1[k].copy_from_slice(&u.plane);
-            }
-            let start = Instant::now();
-            for (u, plane) in by_rust.iter().zip(&mut planes.0) {
-                black_box(u).restore(exec, black_box(plane));
-            }
-            let between = Instant::now();
-            for (u, plane) in by_port.iter().zip(&mut planes.1) {
-                black_box(black_box(u).restore(black_box(plane)));
-            }
-            let rust = (between - start).as_nanos() as f64 / UNITS as f64;
-            let port = between.elapsed().as_nanos() as f64 / UNITS as f64;
-            assert!(planes.0 == planes.1, "the two differ");
-            least = (least.0.min(rust), least.1.min(port));
-        }
-        line(whole::name(op), 64, least);
-    }
+fn cases(seed: u64, n: usize) -> Vec<Case> {
+    let mut r = Random::new(seed);
+    (0..CASES).map(|_| Case::random(&mut r, n)).collect()
 }
 
-pub(crate) fn run() {
+/// The three filter runs.
+fn filter_runs() {
     let exec = black_box(ExecContext::new());
-    println!(
-        "{:<22}{:>6}{:>12}{:>12}{:>12}",
-        "run", "n", "Rust ns", "port ns", "port/Rust"
-    );
     for n in [64, 16, 4] {
-        let mut r = Random::new(n as u64);
-        let cases: Vec<Case> = (0..CASES).map(|_| Case::random(&mut r, n)).collect();
+        let cases = cases(n as u64, n);
 
         let rust = |c: &Case, d: &mut [u8]| {
             runs::ns_run(
@@ -160,19 +116,14 @@ pub(crate) fn run() {
             0
         };
         let port = |c: &Case, d: &mut [u8]| {
-            // SAFETY: the pointers are of live lists of these lengths.
-            let status = unsafe {
-                port::gihvendu_ns_wiener_fir_run(
-                    d.as_mut_ptr(),
-                    n,
-                    c.rows.as_ptr(),
-                    c.rows.len(),
-                    &c.indices,
-                    ORIGIN + c.x0,
-                    &c.ns,
-                    n,
-                )
-            };
+            let status = exports::gihvendu_ns_wiener_fir_run(
+                &mut d[..n],
+                &c.rows,
+                &c.indices,
+                ORIGIN + c.x0,
+                &c.ns,
+                n,
+            );
             u32::from(status)
         };
         line("ns_wiener_fir_run", n, measure(&cases, 1, rust, port));
@@ -190,19 +141,14 @@ pub(crate) fn run() {
             0
         };
         let port = |c: &Case, d: &mut [u8]| {
-            // SAFETY: as above.
-            let status = unsafe {
-                port::gihvendu_pc_wiener_fir_run(
-                    d.as_mut_ptr(),
-                    n,
-                    c.rows.as_ptr(),
-                    c.rows.len(),
-                    &c.indices,
-                    ORIGIN + c.x0,
-                    &c.pc,
-                    n,
-                )
-            };
+            let status = exports::gihvendu_pc_wiener_fir_run(
+                &mut d[..n],
+                &c.rows,
+                &c.indices,
+                ORIGIN + c.x0,
+                &c.pc,
+                n,
+            );
             u32::from(status)
         };
         line("pc_wiener_fir_run", n, measure(&cases, 1, rust, port));
@@ -223,29 +169,26 @@ pub(crate) fn run() {
                 0
             };
             let port = |c: &Case, d: &mut [u8]| {
-                // SAFETY: as above.
-                let status = unsafe {
-                    port::gihvendu_ns_wiener_uv_fir_run(
-                        d.as_mut_ptr(),
-                        n,
-                        c.chroma_rows.as_ptr(),
-                        c.chroma_rows.len(),
-                        &c.chroma_indices,
-                        ORIGIN + c.x0,
-                        ORIGIN + c.x0 * black_box(step),
-                        black_box(step),
-                        &c.uv,
-                        n,
-                    )
-                };
+                let status = exports::gihvendu_ns_wiener_uv_fir_run(
+                    &mut d[..n],
+                    &c.chroma_rows,
+                    &c.chroma_indices,
+                    ORIGIN + c.x0,
+                    ORIGIN + c.x0 * black_box(step),
+                    black_box(step),
+                    &c.uv,
+                    n,
+                );
                 u32::from(status)
             };
             line(name, n, measure(&cases, 1, rust, port));
         }
     }
+}
 
-    let mut r = Random::new(7);
-    let cases: Vec<Case> = (0..CASES).map(|_| Case::random(&mut r, 64)).collect();
+/// The paddings of a row of the unit and of a luma row.
+fn paddings() {
+    let cases = cases(7, 64);
     for w in [64, 16, 4] {
         let rust = |c: &Case, d: &mut [u8]| {
             let src_o = c.indices[0];
@@ -263,23 +206,17 @@ pub(crate) fn run() {
             0
         };
         let port = |c: &Case, d: &mut [u8]| {
-            // SAFETY: as above.
-            let status = unsafe {
-                port::gihvendu_backup_row_8bpc(
-                    d.as_mut_ptr(),
-                    d.len(),
-                    ORIGIN,
-                    c.rows.as_ptr(),
-                    c.rows.len(),
-                    c.indices[0],
-                    c.rows[600..].as_ptr(),
-                    6,
-                    6,
-                    w,
-                    4,
-                    black_box(3),
-                )
-            };
+            let status = exports::gihvendu_backup_row_8bpc(
+                d,
+                ORIGIN,
+                &c.rows,
+                c.indices[0],
+                &c.rows[600..][..6],
+                6,
+                w,
+                4,
+                black_box(3),
+            );
             u32::from(status)
         };
         line("backup_row", w, measure(&cases, 1, rust, port));
@@ -297,50 +234,53 @@ pub(crate) fn run() {
             0
         };
         let port = |c: &Case, d: &mut [u8]| {
-            // SAFETY: as above.
-            let status = unsafe {
-                port::gihvendu_backup_row_luma_8bpc(
-                    d.as_mut_ptr(),
-                    d.len(),
-                    ORIGIN,
-                    c.rows.as_ptr(),
-                    c.rows.len(),
-                    c.chroma_rows.as_ptr(),
-                    c.chroma_rows.len(),
-                    false,
-                    4 + c.indices[0],
-                    140,
-                    w,
-                    black_box(3),
-                    1,
-                    1,
-                    kind as usize,
-                )
-            };
+            let status = exports::gihvendu_backup_row_luma_8bpc(
+                d,
+                ORIGIN,
+                &c.rows,
+                &c.chroma_rows,
+                false,
+                4 + c.indices[0],
+                140,
+                w,
+                black_box(3),
+                1,
+                1,
+                kind as usize,
+            );
             u32::from(status)
         };
         line(name, w, measure(&cases, every, rust, port));
     }
+}
+
+fn class_index() {
+    let cases = cases(7, 64);
     let rust = |c: &Case, _: &mut [u8]| {
         runs::class_index(&c.rows, &c.indices, &c.noskip, c.q, c.indices[1], 3, 16)
     };
     let port = |c: &Case, _: &mut [u8]| {
-        // SAFETY: as above.
-        let answer = unsafe {
-            port::gihvendu_get_class_lut_idx_8bpc(
-                c.rows.as_ptr(),
-                c.rows.len(),
-                &c.indices,
-                c.noskip.as_ptr(),
-                c.noskip.len(),
-                c.q,
-                c.indices[1],
-                3,
-                16,
-            )
-        };
+        let answer = exports::gihvendu_get_class_lut_idx_8bpc(
+            &c.rows,
+            &c.indices,
+            &c.noskip,
+            c.q,
+            c.indices[1],
+            3,
+            16,
+        );
         answer.index + (u32::from(answer.status) << 16)
     };
     line("get_class_lut_idx", 1, measure(&cases, 1, rust, port));
-    units(&exec);
+}
+
+/// The leaves.
+pub(crate) fn run() {
+    println!(
+        "{:<22}{:>6}{:>12}{:>12}{:>12}",
+        "run", "n", "Rust ns", "port ns", "port/Rust"
+    );
+    filter_runs();
+    paddings();
+    class_index();
 }

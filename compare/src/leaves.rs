@@ -2,13 +2,15 @@
 
 use std::panic::{AssertUnwindSafe, catch_unwind};
 
+use gihvendu::exports;
+
 use crate::exec_context::ExecContext;
 use crate::looprestoration::{
     backup_row_8bpc, backup_row_lpf_8bpc, backup_row_luma_8bpc, get_qval_given_tskip,
 };
-use crate::port;
 use crate::random::Random;
 use crate::runs::{self, CHROMA_ROWS, LUMA_ROW, ROW, ROWS};
+use crate::written::Written;
 
 const DONE: u8 = 0;
 const OUTSIDE: u8 = 5;
@@ -60,46 +62,6 @@ impl Tally {
         } else {
             self.stricter += 1;
         }
-    }
-}
-
-const AROUND: usize = 64;
-
-/// A list that a leaf writes, with bytes around it that it must not write.
-pub(crate) struct Written {
-    before: Vec<u8>,
-    memory: Vec<u8>,
-}
-
-impl Written {
-    pub fn new(before: Vec<u8>) -> Written {
-        let around = [0xa5; AROUND];
-        let memory = [&around, &before[..], &around].concat();
-        Written { before, memory }
-    }
-
-    pub fn list(&mut self) -> &mut [u8] {
-        &mut self.memory[AROUND..][..self.before.len()]
-    }
-
-    fn pointer(&mut self) -> *mut u8 {
-        self.memory[AROUND..].as_mut_ptr()
-    }
-
-    fn len(&self) -> usize {
-        self.before.len()
-    }
-
-    pub fn now(&self) -> &[u8] {
-        &self.memory[AROUND..][..self.before.len()]
-    }
-
-    pub fn around_kept(&self) -> bool {
-        let (first, last) = (
-            &self.memory[..AROUND],
-            &self.memory[AROUND + self.before.len()..],
-        );
-        first.iter().chain(last).all(|&b| b == 0xa5)
     }
 }
 
@@ -202,19 +164,7 @@ fn ns_run(t: &mut Tally, exec: &ExecContext, r: &mut Random) {
         runs::ns_run(exec, d, &rows, &indices, col0, &c, n)
     });
     let lent = (rows.clone(), indices, c);
-    // SAFETY: the pointers are of live lists of these lengths.
-    let status = unsafe {
-        port::gihvendu_ns_wiener_fir_run(
-            dst.pointer(),
-            dst.len(),
-            rows.as_ptr(),
-            rows.len(),
-            &indices,
-            col0,
-            &c,
-            n,
-        )
-    };
+    let status = exports::gihvendu_ns_wiener_fir_run(dst.list(), &rows, &indices, col0, &c, n);
     t.judge(status, expected, inside, &dst, lent == (rows, indices, c));
 }
 
@@ -234,19 +184,7 @@ fn pc_run(t: &mut Tally, exec: &ExecContext, r: &mut Random) {
         runs::pc_run(exec, d, &rows, &indices, col0, &c, n)
     });
     let lent = (rows.clone(), indices, c);
-    // SAFETY: as above.
-    let status = unsafe {
-        port::gihvendu_pc_wiener_fir_run(
-            dst.pointer(),
-            dst.len(),
-            rows.as_ptr(),
-            rows.len(),
-            &indices,
-            col0,
-            &c,
-            n,
-        )
-    };
+    let status = exports::gihvendu_pc_wiener_fir_run(dst.list(), &rows, &indices, col0, &c, n);
     t.judge(status, expected, inside, &dst, lent == (rows, indices, c));
 }
 
@@ -274,21 +212,16 @@ fn uv_run(t: &mut Tally, exec: &ExecContext, r: &mut Random) {
         runs::uv_run(exec, d, &rows, &indices, col0, lcol0, step, &c, n)
     });
     let lent = (rows.clone(), indices, c);
-    // SAFETY: as above.
-    let status = unsafe {
-        port::gihvendu_ns_wiener_uv_fir_run(
-            dst.pointer(),
-            dst.len(),
-            rows.as_ptr(),
-            rows.len(),
-            &indices,
-            col0,
-            lcol0,
-            step,
-            &c,
-            n,
-        )
-    };
+    let status = exports::gihvendu_ns_wiener_uv_fir_run(
+        dst.list(),
+        &rows,
+        &indices,
+        col0,
+        lcol0,
+        step,
+        &c,
+        n,
+    );
     t.judge(status, expected, inside, &dst, lent == (rows, indices, c));
 }
 
@@ -322,23 +255,8 @@ fn own_row(t: &mut Tally, r: &mut Random) {
         backup_row_8bpc(d, o, &src, src_o, &left, left_off, w, e, edges as u8)
     });
     let lent = (src.clone(), left.clone());
-    // SAFETY: as above.
-    let status = unsafe {
-        port::gihvendu_backup_row_8bpc(
-            dst.pointer(),
-            dst.len(),
-            o,
-            src.as_ptr(),
-            src.len(),
-            src_o,
-            left.as_ptr(),
-            left.len(),
-            left_off,
-            w,
-            e,
-            edges,
-        )
-    };
+    let status =
+        exports::gihvendu_backup_row_8bpc(dst.list(), o, &src, src_o, &left, left_off, w, e, edges);
     t.judge(status, expected, inside, &dst, lent == (src, left));
 }
 
@@ -358,20 +276,7 @@ fn saved_row(t: &mut Tally, r: &mut Random) {
         backup_row_lpf_8bpc(d, o, &src, src_o, w, e, edges as u8)
     });
     let lent = src.clone();
-    // SAFETY: as above.
-    let status = unsafe {
-        port::gihvendu_backup_row_lpf_8bpc(
-            dst.pointer(),
-            dst.len(),
-            o,
-            src.as_ptr(),
-            src.len(),
-            src_o,
-            w,
-            e,
-            edges,
-        )
-    };
+    let status = exports::gihvendu_backup_row_lpf_8bpc(dst.list(), o, &src, src_o, w, e, edges);
     t.judge(status, expected, inside, &dst, lent == src);
 }
 
@@ -434,26 +339,20 @@ fn luma_row(t: &mut Tally, r: &mut Random) {
         }
     }
     let lent = (plane.clone(), saved.clone());
-    // SAFETY: as above.
-    let status = unsafe {
-        port::gihvendu_backup_row_luma_8bpc(
-            dst.pointer(),
-            dst.len(),
-            o,
-            plane.as_ptr(),
-            plane.len(),
-            saved.as_ptr(),
-            saved.len(),
-            from_saved,
-            src_o,
-            stride,
-            w,
-            edges,
-            ss_hor,
-            ss_ver,
-            kind,
-        )
-    };
+    let status = exports::gihvendu_backup_row_luma_8bpc(
+        dst.list(),
+        o,
+        &plane,
+        &saved,
+        from_saved,
+        src_o,
+        stride,
+        w,
+        edges,
+        ss_hor,
+        ss_ver,
+        kind,
+    );
     t.judge(status, expected, inside, &dst, lent == (plane, saved));
 }
 
@@ -483,20 +382,7 @@ fn class_index(t: &mut Tally, r: &mut Random) {
         DONE
     };
     let lent = (rows.clone(), indices, noskip.clone());
-    // SAFETY: as above.
-    let got = unsafe {
-        port::gihvendu_get_class_lut_idx_8bpc(
-            rows.as_ptr(),
-            rows.len(),
-            &indices,
-            noskip.as_ptr(),
-            noskip.len(),
-            q,
-            bx,
-            by,
-            bh,
-        )
-    };
+    let got = exports::gihvendu_get_class_lut_idx_8bpc(&rows, &indices, &noskip, q, bx, by, bh);
     let good = got.status == status
         && (status != DONE
             || got.index == runs::class_index(&rows, &indices, &noskip, q, bx, by, bh));
@@ -521,8 +407,7 @@ fn quantizer_term(t: &mut Tally, r: &mut Random) {
     } else {
         r.below(4)
     };
-    // SAFETY: nothing is lent.
-    let got = unsafe { port::gihvendu_get_qval_given_tskip(q, skip, i) };
+    let got = exports::gihvendu_get_qval_given_tskip(q, skip, i);
     let status = if i > 3 { OUTSIDE } else { DONE };
     let good = got.status == status
         && (status != DONE || got.value == get_qval_given_tskip(q, i32::from(skip), i, 0));

@@ -7,34 +7,59 @@
 //! FOLDER has the three files, as NAME.rs, src/NAME.rs or src--src--NAME.rs.txt. They are compiled where they are, with
 //! stand-ins for what they import and with their SIMD features off, so that the scalar functions are the reference.
 //!
-//! To compare with the port as well, give the folder of its static library libexports.a:
+//! To compare with the port as well, through the package in bindings/rust, which wants `rt` or its static library:
 //!
-//!     TEALDUST_SRC=FOLDER GIHVENDU_LIB=FOLDER cargo build --release --features linked
+//!     TEALDUST_SRC=FOLDER cargo build --release --features linked
 //!
-//! Run (target/release/compare):
+//! Run (target/release/compare). All but vectors and bench print how much was compared and how much differs, and end with
+//! status 1 where anything does. The Rust indexes `left` without the left bit and, in kind 0, one luma column too many: it
+//! is lent those.
 //!
 //!     compare vectors SEED COUNT    prints an antt file with COUNT random units of each of the four operations and what
 //!                                   the Rust makes of them, to be checked against the definition by computation
-//!     compare leaves SEED COUNT     COUNT random runs of each leaf of the port against the Rust; status 1 if any differs
-//!     compare units SEED COUNT      COUNT random whole units of each operation, restored by the port and by the Rust, every
-//!                                   byte of the plane compared; status 1 if any differs
-//!     compare bench                 nanoseconds per run of the Rust's scalar functions and of the port's
+//!     compare leaves SEED COUNT     COUNT random runs of each leaf
+//!     compare grid SEED             every width, height, set of edge bits, pair, kind and shape of masks as whole units, and
+//!                                   the class index of every block
+//!     compare units SEED COUNT      COUNT random whole units of each operation, every byte of the plane
+//!     compare advances SEED COUNT   COUNT random units of each operation in random lists of advances, refused calls and
+//!                                   overwritten rows, against the Rust's one call
+//!     compare refusals SEED COUNT   units and states at the limits of the table and past them, against a second reading of
+//!                                   the table
+//!     compare differences           the intended differences, each at a smallest input
+//!     compare bench                 nanoseconds of the Rust's scalar functions and of the port's
 
+#[cfg(feature = "linked")]
+mod advances;
 #[cfg(feature = "linked")]
 mod bench;
 #[cfg(feature = "linked")]
-mod leaves;
+mod bench_units;
 #[cfg(feature = "linked")]
-mod port;
+mod calls;
+#[cfg(feature = "linked")]
+mod differences;
+#[cfg(feature = "linked")]
+mod disturb;
+#[cfg(feature = "linked")]
+mod grid;
+#[cfg(feature = "linked")]
+mod leaves;
 mod random;
+#[cfg(feature = "linked")]
+mod refusals;
 #[cfg(feature = "linked")]
 mod runs;
 #[allow(dead_code)]
 mod stand_ins;
+#[cfg(feature = "linked")]
+mod table;
+#[cfg_attr(not(feature = "linked"), allow(dead_code))]
 mod units;
 mod vectors;
 #[cfg(feature = "linked")]
 mod whole;
+#[cfg(feature = "linked")]
+mod written;
 
 #[cfg(target_arch = "aarch64")]
 use stand_ins::neon;
@@ -43,39 +68,46 @@ use stand_ins::{exec_context, headers, lf_mask, pixel, rowops_dispatch, tables};
 include!(concat!(env!("OUT_DIR"), "/reference.rs"));
 
 fn usage() -> ! {
-    eprintln!("usage: compare vectors SEED COUNT | leaves SEED COUNT | units SEED COUNT | bench");
+    eprintln!(
+        "usage: compare vectors | leaves | units | advances | refusals SEED COUNT, grid SEED, differences, bench"
+    );
     std::process::exit(2);
+}
+
+fn number<T: std::str::FromStr>(word: &str) -> T {
+    word.parse().unwrap_or_else(|_| usage())
+}
+
+/// A seed, said again in the output.
+#[cfg(feature = "linked")]
+fn printed(word: &str) -> u64 {
+    let seed = number(word);
+    println!("seed {seed}");
+    seed
 }
 
 #[cfg(feature = "linked")]
 fn linked(words: &[&str]) {
-    match words {
-        ["leaves", seed, count] => {
-            let (Ok(seed), Ok(count)) = (seed.parse(), count.parse()) else {
-                usage()
-            };
-            if !leaves::compare(seed, count) {
-                std::process::exit(1);
-            }
+    let same = match words {
+        ["leaves", seed, count] => leaves::compare(printed(seed), number(count)),
+        ["grid", seed] => grid::compare(printed(seed)),
+        ["units", seed, count] => whole::compare(printed(seed), number(count)),
+        ["advances", seed, count] => advances::compare(printed(seed), number(count)),
+        ["refusals", seed, count] => refusals::compare(printed(seed), number(count)),
+        ["differences"] => differences::compare(),
+        ["bench"] => {
+            bench::run();
+            bench_units::run();
+            true
         }
-        ["units", seed, count] => {
-            let (Ok(seed), Ok(count)) = (seed.parse(), count.parse()) else {
-                usage()
-            };
-            if !whole::compare(seed, count) {
-                std::process::exit(1);
-            }
-        }
-        ["bench"] => bench::run(),
         _ => usage(),
-    }
+    };
+    std::process::exit(i32::from(!same));
 }
 
 #[cfg(not(feature = "linked"))]
-fn linked(words: &[&str]) {
-    if let ["leaves" | "units", ..] | ["bench"] = words {
-        eprintln!("leaves, units and bench need the port: build with --features linked");
-    }
+fn linked(_: &[&str]) {
+    eprintln!("all but vectors needs the port: build with --features linked");
     usage();
 }
 
@@ -83,12 +115,7 @@ fn main() {
     let args: Vec<String> = std::env::args().skip(1).collect();
     let words: Vec<&str> = args.iter().map(String::as_str).collect();
     match words[..] {
-        ["vectors", seed, count] => {
-            let (Ok(seed), Ok(count)) = (seed.parse(), count.parse()) else {
-                usage()
-            };
-            print!("{}", vectors::file(seed, count));
-        }
+        ["vectors", seed, count] => print!("{}", vectors::file(number(seed), number(count))),
         _ => linked(&words),
     }
 }

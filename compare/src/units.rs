@@ -1,10 +1,13 @@
-//! Random small units, and the Rust run on them.
+//! Random units, and the Rust run on them.
+
+use std::ops::Range;
 
 use crate::exec_context::ExecContext;
 use crate::looprestoration::{
     ns_wiener_multi_8bpc, ns_wiener_single_uv_8bpc, ns_wiener_single_y_8bpc, pc_wiener_8bpc,
 };
 use crate::random::Random;
+use crate::tables::PC_WIENER_LUT_TO_CLASS;
 
 #[derive(Clone, Copy, Debug, PartialEq, Eq)]
 pub(crate) enum Operation {
@@ -21,13 +24,36 @@ pub(crate) const OPERATIONS: [Operation; 4] = [
     Operation::Chroma,
 ];
 
-/// A unit that is not refused: what it is opened with, and what is lent. Lists that its edge bits leave unused are empty.
+impl Operation {
+    /// The Rust's function, without its ending.
+    pub fn name(self) -> &'static str {
+        match self {
+            Operation::Luma => "ns_wiener_single_y",
+            Operation::User => "ns_wiener_multi",
+            Operation::Pretrained => "pc_wiener",
+            Operation::Chroma => "ns_wiener_single_uv",
+        }
+    }
+
+    /// Whether the unit's blocks have classes.
+    pub fn classed(self) -> bool {
+        matches!(self, Operation::User | Operation::Pretrained)
+    }
+
+    /// The samples of a border.
+    pub fn border(self) -> usize {
+        if self == Operation::Chroma { 2 } else { 4 }
+    }
+}
+
+/// A unit: what it is opened with, and what is lent. Made here it is not refused, and lists that its edge bits leave unused
+/// are empty.
 #[derive(Clone, Debug, PartialEq, Eq)]
 pub(crate) struct Unit {
     pub op: Operation,
     pub w: usize,
     pub h: usize,
-    pub edges: u8,
+    pub edges: usize,
     pub stride: usize,
     pub luma_stride: usize,
     pub off: usize,
@@ -48,6 +74,7 @@ pub(crate) struct Unit {
     pub luma_bottom: Vec<u8>,
     pub skip: Vec<u16>,
     pub noskip: Vec<u16>,
+    pub map: Vec<u8>,
     pub subclass: Vec<u8>,
     pub filters: Vec<i64>,
     pub q: i32,
@@ -64,10 +91,13 @@ struct Rows {
 }
 
 /// How the lists of a unit lie: its stride is less than `room` over the least one, and no list's offset is under `first`.
-#[derive(Clone, Copy)]
+/// Where they are given, both strides are not drawn but are this, nor the pair and kind of a chroma unit.
+#[derive(Clone, Copy, Default)]
 pub(crate) struct Spacing {
     pub room: usize,
     pub first: usize,
+    pub stride: Option<usize>,
+    pub subsampling: Option<(usize, usize, usize)>,
 }
 
 /// Samples of one unit: any, or all near to one value, where its classes differ most.
@@ -123,7 +153,12 @@ impl Unit {
     }
 
     pub fn sized(r: &mut Random, op: Operation, edge_set: u8, w: usize, h: usize) -> Unit {
-        Unit::spaced(r, op, edge_set, w, h, Spacing { room: 4, first: 1 })
+        let spacing = Spacing {
+            room: 4,
+            first: 1,
+            ..Spacing::default()
+        };
+        Unit::spaced(r, op, edge_set, w, h, spacing)
     }
 
     pub fn spaced(
@@ -134,18 +169,12 @@ impl Unit {
         h: usize,
         spacing: Spacing,
     ) -> Unit {
-        let chroma = op == Operation::Chroma;
-        let classed = op == Operation::User || op == Operation::Pretrained;
-        let edges = edge_set
-            | if r.once_in(3) {
-                (r.below(4) as u8) << 6
-            } else {
-                0
-            };
+        let (chroma, classed, e) = (op == Operation::Chroma, op.classed(), op.border());
+        let edges = usize::from(edge_set) | if r.once_in(3) { r.below(4) << 6 } else { 0 };
         let bit = |k: u8| edges >> k & 1 != 0;
-        let e = if chroma { 2 } else { 4 };
         let beside = |k: u8, n: usize| if bit(k) { n } else { 0 };
-        let stride = w + beside(1, e) + r.below(spacing.room);
+        let drawn = w + beside(1, e) + r.below(spacing.room);
+        let stride = spacing.stride.unwrap_or(drawn);
         let shades = if classed && !r.once_in(3) {
             Shades::Near(r.within(10, 245), r.within(0, 24))
         } else {
@@ -188,18 +217,20 @@ impl Unit {
 
         let (ss_hor, ss_ver) = [(0, 0), (1, 0), (1, 1), (1, 1)][r.below(4)];
         let (ss_hor, ss_ver, kind) = if chroma {
-            (ss_hor, ss_ver, r.below(3))
+            let drawn = (ss_hor, ss_ver, r.below(3));
+            spacing.subsampling.unwrap_or(drawn)
         } else {
             (0, 0, 0)
         };
         let v = 1 << ss_ver;
         let one_less = usize::from(ss_ver == 1 && kind == 2);
         let luma_row = (w << ss_hor) + beside(1, 4);
-        let luma_stride = match (chroma, r.below(6)) {
+        let drawn = match (chroma, r.below(6)) {
             (false, _) => r.below(9),
             (true, 0) => r.below(8),
             (true, _) => luma_row + r.below(6),
         };
+        let luma_stride = spacing.stride.unwrap_or(drawn);
         let above = beside(4, 2 * v) * luma_stride + beside(0, 4);
         let luma_rows = if chroma {
             v * (h + beside(5, 2)) - one_less
@@ -271,6 +302,11 @@ impl Unit {
             luma_bottom: luma_bottom.bytes,
             skip: r.masks(h),
             noskip: if classed { r.masks(h / 4) } else { Vec::new() },
+            map: if classed {
+                PC_WIENER_LUT_TO_CLASS.to_vec()
+            } else {
+                Vec::new()
+            },
             subclass: if classed {
                 (0..64).map(|_| r.below(sets) as u8).collect()
             } else {
@@ -296,22 +332,29 @@ impl Unit {
         plane
     }
 
-    /// The lists in the Rust's types. The Rust indexes `left` without the left bit too, and in kind 0 one luma column too
-    /// many: it is lent those.
-    pub fn for_rust(&self) -> ForRust<'_> {
-        let mut left: Vec<[u8; 6]> = self.left.as_chunks::<6>().0.to_vec();
-        left.resize(self.h, [171; 6]);
-        let wider = |bytes: &[u8]| [bytes, &[211]].concat();
+    /// The lists in the Rust's types, with no more than the unit lends.
+    pub fn as_lent(&self) -> ForRust<'_> {
         ForRust {
             unit: self,
-            left,
+            left: self.left.as_chunks::<6>().0.to_vec(),
             masks: self.skip.as_chunks::<4>().0.to_vec(),
-            luma: wider(&self.luma_plane),
-            luma_top: wider(&self.luma_top),
-            luma_bottom: wider(&self.luma_bottom),
+            luma: self.luma_plane.clone(),
+            luma_top: self.luma_top.clone(),
+            luma_bottom: self.luma_bottom.clone(),
             narrow: self.narrow(),
             wide: self.wide(),
         }
+    }
+
+    /// The lists in the Rust's types. The Rust indexes `left` without the left bit too, and in kind 0 one luma column too
+    /// many: it is lent those.
+    pub fn for_rust(&self) -> ForRust<'_> {
+        let mut lent = self.as_lent();
+        lent.left.resize(self.h, [171; 6]);
+        for luma in [&mut lent.luma, &mut lent.luma_top, &mut lent.luma_bottom] {
+            luma.push(211);
+        }
+        lent
     }
 
     /// The filters of luma, user and chroma units.
@@ -322,6 +365,13 @@ impl Unit {
     /// The filters of pretrained units.
     pub fn wide(&self) -> Vec<i16> {
         self.filters.iter().map(|&c| c as i16).collect()
+    }
+
+    /// The pieces of some of the unit's rows: one for each clear bit of a row's mask that is below w / 4.
+    pub fn pieces(&self, rows: Range<usize>) -> usize {
+        let blocks = (1u32 << (self.w / 4)) - 1;
+        rows.map(|y| (!u32::from(self.skip[y / 4 * 4]) & blocks).count_ones() as usize)
+            .sum()
     }
 
     /// The rectangle of a plane, row by row.
@@ -363,7 +413,7 @@ impl ForRust<'_> {
                 u.w,
                 u.h,
                 self.narrow.as_array::<16>().expect("16 numbers"),
-                u.edges,
+                u.edges as u8,
                 &self.masks,
             ),
             Operation::User => ns_wiener_multi_8bpc(
@@ -382,7 +432,7 @@ impl ForRust<'_> {
                 &u.subclass,
                 &u.noskip,
                 u.q,
-                u.edges,
+                u.edges as u8,
                 &self.masks,
             ),
             Operation::Pretrained => pc_wiener_8bpc(
@@ -401,7 +451,7 @@ impl ForRust<'_> {
                 &u.subclass,
                 &u.noskip,
                 u.q,
-                u.edges,
+                u.edges as u8,
                 &self.masks,
             ),
             Operation::Chroma => ns_wiener_single_uv_8bpc(
@@ -427,7 +477,7 @@ impl ForRust<'_> {
                 u.ss_hor,
                 u.ss_ver,
                 u.kind as i32,
-                u.edges,
+                u.edges as u8,
                 &self.masks,
             ),
         }

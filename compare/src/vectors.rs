@@ -93,7 +93,7 @@ fn write_unit(out: &mut String, k: usize, u: &Unit, expected: &[u8]) {
     for (name, number) in [
         ("w", u.w),
         ("h", u.h),
-        ("edges", usize::from(u.edges)),
+        ("edges", u.edges),
         ("stride", u.stride),
         ("lumaStride", u.luma_stride),
         ("off", u.off),

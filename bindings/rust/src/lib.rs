@@ -1,0 +1,33 @@
+//! The 8-bit Wiener restoration core of AV2, proved in Rattle, for programs in Rust.
+//!
+//! The four functions of tealdust that restore a unit stand here under their own names, with the same lists, offsets,
+//! strides, edge bits and masks: numbers in [`Unit`] (and [`LumaUnit`]), lists in [`Borders`], [`Classes`] and [`Luma`].
+//!
+//! | tealdust | here |
+//! |---|---|
+//! | `ns_wiener_single_y_8bpc` | [`ns_wiener_single_y_8bpc`], or [`State::open_y`] and [`State::advance_y`] |
+//! | `ns_wiener_multi_8bpc` | [`ns_wiener_multi_8bpc`], or [`State::open_n`] and [`State::advance_n`] |
+//! | `pc_wiener_8bpc` | [`pc_wiener_8bpc`], or [`State::open_p`] and [`State::advance_p`] |
+//! | `ns_wiener_single_uv_8bpc` | [`ns_wiener_single_uv_8bpc`], or [`State::open_c`] and [`State::advance_c`] |
+//! | `get_class_lut_idx_8bpc` | [`get_class_lut_idx_8bpc`] |
+//!
+//! Where tealdust would panic, or where a number is off its limit, a [`Refusal`] comes back and no byte is written. Nested
+//! lists are handed over flat: `left.as_flattened()`, `ll_mask.as_flattened()`.
+
+mod call;
+pub mod exports;
+mod lent;
+mod refusal;
+mod state;
+mod whole;
+
+pub use lent::{Borders, Classes, Luma, LumaUnit, Unit, edges};
+pub use refusal::Refusal;
+pub use state::State;
+pub use whole::{
+    get_class_lut_idx_8bpc, ns_wiener_multi_8bpc, ns_wiener_single_uv_8bpc,
+    ns_wiener_single_y_8bpc, pc_wiener_8bpc,
+};
+
+/// How much a call restored, in pieces: four neighbouring samples of one row in one unmasked block.
+pub type Pieces = usize;
