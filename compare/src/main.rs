@@ -16,6 +16,7 @@
 //!     compare vectors SEED COUNT    prints an antt file with COUNT random units of each of the four operations and what
 //!                                   the Rust makes of them, to be checked against the definition by computation
 //!     compare cards SEED FOLDER     writes a corpus of cards, their lengths and the answers expected (cards, lengths, stdout)
+//!     compare replay                prints what the Rust makes of the units of the Rattle program replay
 //!     compare leaves SEED COUNT     COUNT random runs of each leaf of the port against the Rust; status 1 if any differs
 //!     compare units SEED COUNT      COUNT random whole units of each operation, restored by the port and by the Rust, every
 //!                                   byte of the plane compared; status 1 if any differs
@@ -29,6 +30,7 @@ mod leaves;
 #[cfg(feature = "linked")]
 mod port;
 mod random;
+mod replay;
 #[cfg(feature = "linked")]
 mod runs;
 #[allow(dead_code)]
@@ -45,7 +47,7 @@ use stand_ins::{exec_context, headers, lf_mask, pixel, rowops_dispatch, tables};
 include!(concat!(env!("OUT_DIR"), "/reference.rs"));
 
 fn usage() -> ! {
-    eprintln!("usage: compare vectors SEED COUNT | cards SEED FOLDER | leaves SEED COUNT | units SEED COUNT | bench");
+    eprintln!("usage: compare vectors SEED COUNT | cards SEED FOLDER | replay | leaves SEED COUNT | units SEED COUNT | bench");
     std::process::exit(2);
 }
 
@@ -95,6 +97,7 @@ fn main() {
             let Ok(seed) = seed.parse() else { usage() };
             cards::write(seed, folder.as_ref()).expect("the folder can be written");
         }
+        ["replay"] => print!("{}", replay::lines()),
         _ => linked(&words),
     }
 }
