@@ -231,15 +231,6 @@ fn digest(bytes: &[u8]) -> u64 {
     })
 }
 
-fn letter(op: Operation) -> char {
-    match op {
-        Operation::Luma => 'y',
-        Operation::User => 'n',
-        Operation::Pretrained => 'p',
-        Operation::Chroma => 'c',
-    }
-}
-
 /// Whether the classes of a unit show in its samples.
 fn classes_show(u: &Unit, restored: &[u8]) -> bool {
     (0..4).all(|class| {
@@ -265,8 +256,8 @@ pub(crate) fn lines() -> String {
             classed += usize::from(classes_show(&u, &restored));
         }
         out.push_str(&format!(
-            "unit {k} {} w={} h={} edges={} status=0 pieces={} plane={:016x}\n",
-            letter(u.op),
+            "unit {k} op={} w={} h={} edges={} status=0 pieces={} plane={:016x}\n",
+            k % 4 + 1,
             u.w,
             u.h,
             u.edges,

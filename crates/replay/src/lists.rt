@@ -15,9 +15,6 @@ pub struct Unit {
     pub off: usize,
     pub top_off: usize,
     pub bottom_off: usize,
-    // Rows of the first two advances.
-    pub first: usize,
-    pub second: usize,
 }
 
 // The luma of a chroma unit.
@@ -81,8 +78,6 @@ pub fn unit_of(k: usize) -> Unit {
         off: below(k, 15, 8),
         top_off: left + below(k, 16, 8),
         bottom_off: left + below(k, 17, 8),
-        first: below(k, 18, 9),
-        second: below(k, 19, 20),
     }
 }
 
@@ -215,6 +210,16 @@ pub fn part<'a>(s: &'a [u8], from: usize, n: usize) -> &'a [u8] {
         return s;
     }
     &s[from..from + n]
+}
+
+// So many rows of the luma of a chroma unit, from the pool.
+pub fn luma_part<'a>(pool: &'a [u8], from: usize, l: Luma, off: usize, rows: usize) -> &'a [u8] {
+    part(pool, from, extent(off, rows, l.stride, l.w, l.right))
+}
+
+// So many rows of a unit's own saved samples, from the pool.
+pub fn saved_part<'a>(pool: &'a [u8], from: usize, u: Unit, off: usize, rows: usize) -> &'a [u8] {
+    part(pool, from, extent(off, rows, u.stride, u.w, u.right))
 }
 
 // A place in the pool.

@@ -1,5 +1,5 @@
 // Units of all four operations, restored here and by the Rust: 768 of them, with every set of edge bits, pair and kind.
-// Half of them are opened and restored in three advances. For each the program writes its number, operation, size and
+// Half of them are opened and restored in eight advances. For each the program writes its number, operation, size and
 // edges, the status, the pieces, and a digest (FNV-1a, 64 bits) of every byte of the plane that it was lent.
 // The expected lines, in the file stdout, are the Rust's: `compare replay` writes them, from the same generator.
 mod lists;
@@ -19,11 +19,7 @@ fn run_luma(
 ) -> Done {
     let mut filter = [0i8; 16];
     numbers::narrow_sets(&mut filter, u.k);
-    if restore::in_advances(u.k) {
-        restore::luma_in_advances(u, p, left, top, bottom, &filter, skip)
-    } else {
-        restore::luma(u, p, left, top, bottom, &filter, skip)
-    }
+    restore::luma(u, p, left, top, bottom, &filter, skip)
 }
 
 fn run_user(
@@ -40,35 +36,19 @@ fn run_user(
     let mut filters = [0i8; 72];
     numbers::narrow_sets(&mut filters, u.k);
     let q = numbers::quantizer(u.k);
-    if restore::in_advances(u.k) {
-        restore::user_in_advances(
-            u,
-            p,
-            left,
-            top,
-            bottom,
-            &filters,
-            map,
-            subclass,
-            noskip,
-            q,
-            skip,
-        )
-    } else {
-        restore::user(
-            u,
-            p,
-            left,
-            top,
-            bottom,
-            &filters,
-            map,
-            subclass,
-            noskip,
-            q,
-            skip,
-        )
-    }
+    restore::user(
+        u,
+        p,
+        left,
+        top,
+        bottom,
+        &filters,
+        map,
+        subclass,
+        noskip,
+        q,
+        skip,
+    )
 }
 
 fn run_pretrained(
@@ -85,35 +65,19 @@ fn run_pretrained(
     let mut filters = [0i16; 52];
     numbers::wide_sets(&mut filters, u.k);
     let q = numbers::quantizer(u.k);
-    if restore::in_advances(u.k) {
-        restore::pretrained_in_advances(
-            u,
-            p,
-            left,
-            top,
-            bottom,
-            &filters,
-            map,
-            subclass,
-            noskip,
-            q,
-            skip,
-        )
-    } else {
-        restore::pretrained(
-            u,
-            p,
-            left,
-            top,
-            bottom,
-            &filters,
-            map,
-            subclass,
-            noskip,
-            q,
-            skip,
-        )
-    }
+    restore::pretrained(
+        u,
+        p,
+        left,
+        top,
+        bottom,
+        &filters,
+        map,
+        subclass,
+        noskip,
+        q,
+        skip,
+    )
 }
 
 fn run_classed(
@@ -148,48 +112,30 @@ fn run_chroma(
     let mut filter = [0i8; 18];
     numbers::narrow_sets(&mut filter, u.k);
     let l = lists::luma_of(u);
-    let rows = lists::luma_rows(u, l);
-    let n = lists::extent(l.off, rows, l.stride, l.w, l.right);
-    let luma = lists::part(pool, lists::place(u.k, 34), n);
-    let n = lists::extent(
-        l.top_off,
-        lists::luma_top_rows(u, l),
-        l.stride,
-        l.w,
-        l.right,
+    let luma = lists::luma_part(
+        pool,
+        lists::place(u.k, 34),
+        l,
+        l.off,
+        lists::luma_rows(u, l),
     );
-    let luma_top = lists::part(pool, lists::place(u.k, 35), n);
-    let n = lists::extent(l.bottom_off, lists::bottom_rows(u), l.stride, l.w, l.right);
-    let luma_bottom = lists::part(pool, lists::place(u.k, 36), n);
-    if restore::in_advances(u.k) {
-        restore::chroma_in_advances(
-            u,
-            l,
-            p,
-            left,
-            top,
-            bottom,
-            &filter,
-            luma,
-            luma_top,
-            luma_bottom,
-            skip,
-        )
-    } else {
-        restore::chroma(
-            u,
-            l,
-            p,
-            left,
-            top,
-            bottom,
-            &filter,
-            luma,
-            luma_top,
-            luma_bottom,
-            skip,
-        )
-    }
+    let top_rows = lists::luma_top_rows(u, l);
+    let luma_top = lists::luma_part(pool, lists::place(u.k, 35), l, l.top_off, top_rows);
+    let bottom_rows = lists::bottom_rows(u);
+    let luma_bottom = lists::luma_part(pool, lists::place(u.k, 36), l, l.bottom_off, bottom_rows);
+    restore::chroma(
+        u,
+        l,
+        p,
+        left,
+        top,
+        bottom,
+        &filter,
+        luma,
+        luma_top,
+        luma_bottom,
+        skip,
+    )
 }
 
 fn left_len(u: Unit) -> usize {
@@ -199,12 +145,15 @@ fn left_len(u: Unit) -> usize {
     if u.left == 0 { 0 } else { 6 * u.h }
 }
 
-fn run(u: Unit, p: &mut [u8], pool: &[u8], map: &[u8]) -> Done {
-    let left = lists::part(pool, lists::place(u.k, 31), left_len(u));
-    let n = lists::extent(u.top_off, lists::top_rows(u), u.stride, u.w, u.right);
-    let top = lists::part(pool, lists::place(u.k, 32), n);
-    let n = lists::extent(u.bottom_off, lists::bottom_rows(u), u.stride, u.w, u.right);
-    let bottom = lists::part(pool, lists::place(u.k, 33), n);
+fn run_on(
+    u: Unit,
+    p: &mut [u8],
+    left: &[u8],
+    top: &[u8],
+    bottom: &[u8],
+    pool: &[u8],
+    map: &[u8],
+) -> Done {
     let mut skip = [0u16; 64];
     numbers::masks(&mut skip, u.k, 2);
     let op = u.op;
@@ -215,27 +164,34 @@ fn run(u: Unit, p: &mut [u8], pool: &[u8], map: &[u8]) -> Done {
     }
 }
 
+fn run(u: Unit, p: &mut [u8], pool: &[u8], map: &[u8]) -> Done {
+    let left = lists::part(pool, lists::place(u.k, 31), left_len(u));
+    let top = lists::saved_part(
+        pool,
+        lists::place(u.k, 32),
+        u,
+        u.top_off,
+        lists::top_rows(u),
+    );
+    let rows = lists::bottom_rows(u);
+    let bottom = lists::saved_part(pool, lists::place(u.k, 33), u, u.bottom_off, rows);
+    run_on(u, p, left, top, bottom, pool, map)
+}
+
 fn print_number(name: &[u8], n: usize) {
     io::write_all(1, name);
     io::print_decimal(1, n as u64);
 }
 
-fn print_operation(op: usize) {
-    match op {
-        1 => io::write_all(1, b" y"),
-        2 => io::write_all(1, b" n"),
-        3 => io::write_all(1, b" p"),
-        _ => io::write_all(1, b" c"),
-    }
-    ;
-}
-
-fn print_unit(u: Unit, r: Done, digest: usize) {
+fn print_unit(u: Unit) {
     print_number(b"unit ", u.k);
-    print_operation(u.op);
+    print_number(b" op=", u.op);
     print_number(b" w=", u.w);
     print_number(b" h=", u.h);
     print_number(b" edges=", u.edges);
+}
+
+fn print_answer(r: Done, digest: usize) {
     print_number(b" status=", r.status as usize);
     print_number(b" pieces=", r.pieces);
     io::write_all(1, b" plane=");
@@ -252,7 +208,8 @@ fn replay_on(plane: &mut [u8], u: Unit, pool: &[u8], map: &[u8]) {
     let p = &mut plane[..n];
     numbers::samples(p, lists::plane_place(u));
     let r = run(u, p, pool, map);
-    print_unit(u, r, numbers::digest(p));
+    print_unit(u);
+    print_answer(r, numbers::digest(p));
 }
 
 fn replay(k: usize, pool: &[u8; 36864], map: &[u8; 4096]) {

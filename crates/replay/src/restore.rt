@@ -1,28 +1,64 @@
-// A unit of each operation: whole where its number says so, else opened and restored in three advances.
+// A unit of each operation: whole, or opened and restored in eight advances.
 use crate::lists::Luma;
 use crate::lists::Unit;
+use crate::numbers::below;
 
 pub struct Done {
     pub status: u8,
     pub pieces: usize,
 }
 
-fn sum(a: usize, b: usize, c: usize) -> usize {
-    std::num::wrapping_add_usize(std::num::wrapping_add_usize(a, b), c)
+fn first_refusal(a: u8, b: u8) -> u8 {
+    if a != 0 { a } else { b }
 }
 
-fn first_refusal(a: u8, b: u8, c: u8, d: u8) -> u8 {
-    if a != 0 {
-        return a;
+// The rows of advance i of unit k: a few, or none, and at last all that remain.
+fn rows(k: usize, i: usize) -> usize {
+    if i < 7 {
+        below(std::num::wrapping_add_usize(k, i), 18, 10)
+    } else {
+        64
     }
-    if b != 0 {
-        return b;
-    }
-    if c != 0 { c } else { d }
 }
 
-pub fn in_advances(k: usize) -> bool {
+fn in_advances(k: usize) -> bool {
     k / 4 % 2 == 1
+}
+
+fn luma_in_advances(
+    u: Unit,
+    p: &mut [u8],
+    left: &[u8],
+    top: &[u8],
+    bottom: &[u8],
+    filter: &[i8],
+    skip: &[u16],
+) -> Done {
+    let opened = units::open_y(
+        p,
+        u.off,
+        u.stride,
+        left,
+        top,
+        u.top_off,
+        bottom,
+        u.bottom_off,
+        u.w,
+        u.h,
+        filter,
+        u.edges,
+        skip,
+    );
+    let mut s = opened.state;
+    let mut status = opened.status;
+    let mut pieces: usize = 0;
+    for i in 0..8 {
+        let a = s.advance_y(rows(u.k, i), p, left, top, bottom, filter, skip);
+        status = first_refusal(status, a.status);
+        pieces = std::num::wrapping_add_usize(pieces, a.pieces);
+        s = a.state;
+    }
+    Done { status, pieces }
 }
 
 pub fn luma(
@@ -32,8 +68,11 @@ pub fn luma(
     top: &[u8],
     bottom: &[u8],
     filter: &[i8; 16],
-    skip: &[u16; 64],
+    skip: &[u16],
 ) -> Done {
+    if in_advances(u.k) {
+        return luma_in_advances(u, p, left, top, bottom, filter, skip);
+    }
     let r = units::ns_wiener_single_y_8bpc(
         p,
         u.off,
@@ -55,16 +94,20 @@ pub fn luma(
     }
 }
 
-pub fn luma_in_advances(
+fn user_in_advances(
     u: Unit,
     p: &mut [u8],
     left: &[u8],
     top: &[u8],
     bottom: &[u8],
-    filter: &[i8; 16],
-    skip: &[u16; 64],
+    filters: &[i8],
+    map: &[u8],
+    subclass: &[u8],
+    noskip: &[u16],
+    q: i32,
+    skip: &[u16],
 ) -> Done {
-    let opened = units::open_y(
+    let opened = units::open_n(
         p,
         u.off,
         u.stride,
@@ -75,20 +118,36 @@ pub fn luma_in_advances(
         u.bottom_off,
         u.w,
         u.h,
-        filter,
+        filters,
+        map,
+        subclass,
+        noskip,
+        q,
         u.edges,
         skip,
     );
-    let s = opened.state;
-    let a = s.advance_y(u.first, p, left, top, bottom, filter, skip);
-    let s = a.state;
-    let b = s.advance_y(u.second, p, left, top, bottom, filter, skip);
-    let s = b.state;
-    let c = s.advance_y(u.h, p, left, top, bottom, filter, skip);
-    Done {
-        status: first_refusal(opened.status, a.status, b.status, c.status),
-        pieces: sum(a.pieces, b.pieces, c.pieces),
+    let mut s = opened.state;
+    let mut status = opened.status;
+    let mut pieces: usize = 0;
+    for i in 0..8 {
+        let a = s.advance_n(
+            rows(u.k, i),
+            p,
+            left,
+            top,
+            bottom,
+            filters,
+            map,
+            subclass,
+            noskip,
+            q,
+            skip,
+        );
+        status = first_refusal(status, a.status);
+        pieces = std::num::wrapping_add_usize(pieces, a.pieces);
+        s = a.state;
     }
+    Done { status, pieces }
 }
 
 pub fn user(
@@ -99,11 +158,26 @@ pub fn user(
     bottom: &[u8],
     filters: &[i8; 72],
     map: &[u8],
-    subclass: &[u8; 64],
-    noskip: &[u16; 16],
+    subclass: &[u8],
+    noskip: &[u16],
     q: i32,
-    skip: &[u16; 64],
+    skip: &[u16],
 ) -> Done {
+    if in_advances(u.k) {
+        return user_in_advances(
+            u,
+            p,
+            left,
+            top,
+            bottom,
+            filters,
+            map,
+            subclass,
+            noskip,
+            q,
+            skip,
+        );
+    }
     let r = units::ns_wiener_multi_8bpc(
         p,
         u.off,
@@ -129,20 +203,20 @@ pub fn user(
     }
 }
 
-pub fn user_in_advances(
+fn pretrained_in_advances(
     u: Unit,
     p: &mut [u8],
     left: &[u8],
     top: &[u8],
     bottom: &[u8],
-    filters: &[i8; 72],
+    filters: &[i16],
     map: &[u8],
-    subclass: &[u8; 64],
-    noskip: &[u16; 16],
+    subclass: &[u8],
+    noskip: &[u16],
     q: i32,
-    skip: &[u16; 64],
+    skip: &[u16],
 ) -> Done {
-    let opened = units::open_n(
+    let opened = units::open_p(
         p,
         u.off,
         u.stride,
@@ -161,52 +235,28 @@ pub fn user_in_advances(
         u.edges,
         skip,
     );
-    let s = opened.state;
-    let a = s.advance_n(
-        u.first,
-        p,
-        left,
-        top,
-        bottom,
-        filters,
-        map,
-        subclass,
-        noskip,
-        q,
-        skip,
-    );
-    let s = a.state;
-    let b = s.advance_n(
-        u.second,
-        p,
-        left,
-        top,
-        bottom,
-        filters,
-        map,
-        subclass,
-        noskip,
-        q,
-        skip,
-    );
-    let s = b.state;
-    let c = s.advance_n(
-        u.h,
-        p,
-        left,
-        top,
-        bottom,
-        filters,
-        map,
-        subclass,
-        noskip,
-        q,
-        skip,
-    );
-    Done {
-        status: first_refusal(opened.status, a.status, b.status, c.status),
-        pieces: sum(a.pieces, b.pieces, c.pieces),
+    let mut s = opened.state;
+    let mut status = opened.status;
+    let mut pieces: usize = 0;
+    for i in 0..8 {
+        let a = s.advance_p(
+            rows(u.k, i),
+            p,
+            left,
+            top,
+            bottom,
+            filters,
+            map,
+            subclass,
+            noskip,
+            q,
+            skip,
+        );
+        status = first_refusal(status, a.status);
+        pieces = std::num::wrapping_add_usize(pieces, a.pieces);
+        s = a.state;
     }
+    Done { status, pieces }
 }
 
 pub fn pretrained(
@@ -217,11 +267,26 @@ pub fn pretrained(
     bottom: &[u8],
     filters: &[i16; 52],
     map: &[u8],
-    subclass: &[u8; 64],
-    noskip: &[u16; 16],
+    subclass: &[u8],
+    noskip: &[u16],
     q: i32,
-    skip: &[u16; 64],
+    skip: &[u16],
 ) -> Done {
+    if in_advances(u.k) {
+        return pretrained_in_advances(
+            u,
+            p,
+            left,
+            top,
+            bottom,
+            filters,
+            map,
+            subclass,
+            noskip,
+            q,
+            skip,
+        );
+    }
     let r = units::pc_wiener_8bpc(
         p,
         u.off,
@@ -247,20 +312,20 @@ pub fn pretrained(
     }
 }
 
-pub fn pretrained_in_advances(
+fn chroma_in_advances<'a>(
     u: Unit,
+    l: Luma,
     p: &mut [u8],
     left: &[u8],
     top: &[u8],
     bottom: &[u8],
-    filters: &[i16; 52],
-    map: &[u8],
-    subclass: &[u8; 64],
-    noskip: &[u16; 16],
-    q: i32,
-    skip: &[u16; 64],
+    filter: &[i8],
+    luma: &'a [u8],
+    luma_top: &'a [u8],
+    luma_bottom: &'a [u8],
+    skip: &[u16],
 ) -> Done {
-    let opened = units::open_p(
+    let opened = units::open_c(
         p,
         u.off,
         u.stride,
@@ -271,60 +336,41 @@ pub fn pretrained_in_advances(
         u.bottom_off,
         u.w,
         u.h,
-        filters,
-        map,
-        subclass,
-        noskip,
-        q,
+        filter,
+        luma,
+        l.off,
+        l.stride,
+        luma_top,
+        l.top_off,
+        luma_bottom,
+        l.bottom_off,
+        l.ss_hor,
+        l.ss_ver,
+        l.kind,
         u.edges,
         skip,
     );
-    let s = opened.state;
-    let a = s.advance_p(
-        u.first,
-        p,
-        left,
-        top,
-        bottom,
-        filters,
-        map,
-        subclass,
-        noskip,
-        q,
-        skip,
-    );
-    let s = a.state;
-    let b = s.advance_p(
-        u.second,
-        p,
-        left,
-        top,
-        bottom,
-        filters,
-        map,
-        subclass,
-        noskip,
-        q,
-        skip,
-    );
-    let s = b.state;
-    let c = s.advance_p(
-        u.h,
-        p,
-        left,
-        top,
-        bottom,
-        filters,
-        map,
-        subclass,
-        noskip,
-        q,
-        skip,
-    );
-    Done {
-        status: first_refusal(opened.status, a.status, b.status, c.status),
-        pieces: sum(a.pieces, b.pieces, c.pieces),
+    let mut s = opened.state;
+    let mut status = opened.status;
+    let mut pieces: usize = 0;
+    for i in 0..8 {
+        let a = s.advance_c(
+            rows(u.k, i),
+            p,
+            left,
+            top,
+            bottom,
+            filter,
+            luma,
+            luma_top,
+            luma_bottom,
+            skip,
+        );
+        status = first_refusal(status, a.status);
+        pieces = std::num::wrapping_add_usize(pieces, a.pieces);
+        s = a.state;
     }
+    Done { status, pieces }
 }
 
 pub fn chroma<'a>(
@@ -338,8 +384,23 @@ pub fn chroma<'a>(
     luma: &'a [u8],
     luma_top: &'a [u8],
     luma_bottom: &'a [u8],
-    skip: &[u16; 64],
+    skip: &[u16],
 ) -> Done {
+    if in_advances(u.k) {
+        return chroma_in_advances(
+            u,
+            l,
+            p,
+            left,
+            top,
+            bottom,
+            filter,
+            luma,
+            luma_top,
+            luma_bottom,
+            skip,
+        );
+    }
     let r = units::ns_wiener_single_uv_8bpc(
         p,
         u.off,
@@ -368,88 +429,5 @@ pub fn chroma<'a>(
     Done {
         status: r.status,
         pieces: r.pieces,
-    }
-}
-
-pub fn chroma_in_advances<'a>(
-    u: Unit,
-    l: Luma,
-    p: &mut [u8],
-    left: &[u8],
-    top: &[u8],
-    bottom: &[u8],
-    filter: &[i8; 18],
-    luma: &'a [u8],
-    luma_top: &'a [u8],
-    luma_bottom: &'a [u8],
-    skip: &[u16; 64],
-) -> Done {
-    let opened = units::open_c(
-        p,
-        u.off,
-        u.stride,
-        left,
-        top,
-        u.top_off,
-        bottom,
-        u.bottom_off,
-        u.w,
-        u.h,
-        filter,
-        luma,
-        l.off,
-        l.stride,
-        luma_top,
-        l.top_off,
-        luma_bottom,
-        l.bottom_off,
-        l.ss_hor,
-        l.ss_ver,
-        l.kind,
-        u.edges,
-        skip,
-    );
-    let s = opened.state;
-    let a = s.advance_c(
-        u.first,
-        p,
-        left,
-        top,
-        bottom,
-        filter,
-        luma,
-        luma_top,
-        luma_bottom,
-        skip,
-    );
-    let s = a.state;
-    let b = s.advance_c(
-        u.second,
-        p,
-        left,
-        top,
-        bottom,
-        filter,
-        luma,
-        luma_top,
-        luma_bottom,
-        skip,
-    );
-    let s = b.state;
-    let c = s.advance_c(
-        u.h,
-        p,
-        left,
-        top,
-        bottom,
-        filter,
-        luma,
-        luma_top,
-        luma_bottom,
-        skip,
-    );
-    Done {
-        status: first_refusal(opened.status, a.status, b.status, c.status),
-        pieces: sum(a.pieces, b.pieces, c.pieces),
     }
 }

@@ -30,11 +30,14 @@ samples-requires c κs = search needs
 run-requires : tie.Need-run-requires
 run-requires c κs = search needs
 
+print-unit-requires : tie.Need-print-unit-requires
+print-unit-requires c κs = search needs
+
 digest-requires : tie.Need-digest-requires
 digest-requires c κs = search needs
 
-print-unit-requires : tie.Need-print-unit-requires
-print-unit-requires c κs = search needs
+print-answer-requires : tie.Need-print-answer-requires
+print-answer-requires c κs = search needs
 
 same-length : tie.Need-same-length
 same-length c = search needs
@@ -54,7 +57,8 @@ replay-on-spec =
     plane-place-requires
     samples-requires
     run-requires
-    digest-requires
     print-unit-requires
+    digest-requires
+    print-answer-requires
     same-length
     returns-2)
