@@ -17,6 +17,7 @@
 //!                                   the Rust makes of them, to be checked against the definition by computation
 //!     compare cards SEED FOLDER     writes a corpus of cards, their lengths and the answers expected (cards, lengths, stdout)
 //!     compare replay                prints what the Rust makes of the units of the Rattle program replay
+//!     compare traps                 prints what the Rust makes of the units of the Rattle program traps
 //!     compare leaves SEED COUNT     COUNT random runs of each leaf of the port against the Rust; status 1 if any differs
 //!     compare units SEED COUNT      COUNT random whole units of each operation, restored by the port and by the Rust, every
 //!                                   byte of the plane compared; status 1 if any differs
@@ -35,6 +36,7 @@ mod replay;
 mod runs;
 #[allow(dead_code)]
 mod stand_ins;
+mod traps;
 mod units;
 mod vectors;
 #[cfg(feature = "linked")]
@@ -47,7 +49,7 @@ use stand_ins::{exec_context, headers, lf_mask, pixel, rowops_dispatch, tables};
 include!(concat!(env!("OUT_DIR"), "/reference.rs"));
 
 fn usage() -> ! {
-    eprintln!("usage: compare vectors SEED COUNT | cards SEED FOLDER | replay | leaves SEED COUNT | units SEED COUNT | bench");
+    eprintln!("usage: compare vectors SEED COUNT | cards SEED FOLDER | replay | traps | leaves SEED COUNT | units SEED COUNT | bench");
     std::process::exit(2);
 }
 
@@ -98,6 +100,7 @@ fn main() {
             cards::write(seed, folder.as_ref()).expect("the folder can be written");
         }
         ["replay"] => print!("{}", replay::lines()),
+        ["traps"] => print!("{}", traps::lines()),
         _ => linked(&words),
     }
 }
