@@ -212,6 +212,21 @@ pub fn part<'a>(s: &'a [u8], from: usize, n: usize) -> &'a [u8] {
     &s[from..from + n]
 }
 
+// The first n numbers.
+pub fn first<'a>(s: &'a [i8], n: usize) -> &'a [i8] {
+    if n > s.len() {
+        return s;
+    }
+    &s[0..n]
+}
+
+pub fn left_len(u: Unit) -> usize {
+    if u.h > 64 {
+        return 0;
+    }
+    if u.left == 0 { 0 } else { 6 * u.h }
+}
+
 // So many rows of the luma of a chroma unit, from the pool.
 pub fn luma_part<'a>(pool: &'a [u8], from: usize, l: Luma, off: usize, rows: usize) -> &'a [u8] {
     part(pool, from, extent(off, rows, l.stride, l.w, l.right))

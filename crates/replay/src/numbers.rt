@@ -62,7 +62,7 @@ fn sample(i: usize) -> u8 {
     }
 }
 
-// Byte i of a list: the pool's, the map's, or a unit's subclasses, of which there are four.
+// Byte i of a list: 0 the pool's from k on, 1 the map's, 2 the subclasses of unit k, of which there are four.
 fn byte(list: usize, k: usize, i: usize) -> u8 {
     match list {
         0 => sample(std::num::wrapping_add_usize(k, i)),
@@ -78,15 +78,10 @@ fn map_entry(i: usize) -> u8
     ((i * 37 + i / 64) % 64) as u8
 }
 
-fn fill(a: &mut [u8], list: usize, k: usize) {
+pub fn fill(a: &mut [u8], list: usize, k: usize) {
     for i in 0..a.len() {
         a[i] = byte(list, k, i);
     }
-}
-
-// Samples of the pool, from `from` on.
-pub fn samples(a: &mut [u8], from: usize) {
-    fill(a, 0, from);
 }
 
 pub fn pool(a: &mut [u8; 36864]) {
@@ -95,10 +90,6 @@ pub fn pool(a: &mut [u8; 36864]) {
 
 pub fn map(a: &mut [u8; 4096]) {
     fill(a, 1, 0);
-}
-
-pub fn subclasses(a: &mut [u8; 64], k: usize) {
-    fill(a, 2, k);
 }
 
 fn mask(shape: usize, v: usize) -> u16 {

@@ -2,11 +2,7 @@
 use crate::lists::Luma;
 use crate::lists::Unit;
 use crate::numbers::below;
-
-pub struct Done {
-    pub status: u8,
-    pub pieces: usize,
-}
+use units::Restored;
 
 fn first_refusal(a: u8, b: u8) -> u8 {
     if a != 0 { a } else { b }
@@ -33,7 +29,7 @@ fn luma_in_advances(
     bottom: &[u8],
     filter: &[i8],
     skip: &[u16],
-) -> Done {
+) -> Restored {
     let opened = units::open_y(
         p,
         u.off,
@@ -58,7 +54,7 @@ fn luma_in_advances(
         pieces = std::num::wrapping_add_usize(pieces, a.pieces);
         s = a.state;
     }
-    Done { status, pieces }
+    Restored { status, pieces }
 }
 
 pub fn luma(
@@ -67,13 +63,13 @@ pub fn luma(
     left: &[u8],
     top: &[u8],
     bottom: &[u8],
-    filter: &[i8; 16],
+    filter: &[i8],
     skip: &[u16],
-) -> Done {
+) -> Restored {
     if in_advances(u.k) {
         return luma_in_advances(u, p, left, top, bottom, filter, skip);
     }
-    let r = units::ns_wiener_single_y_8bpc(
+    units::ns_wiener_single_y_8bpc(
         p,
         u.off,
         u.stride,
@@ -87,11 +83,7 @@ pub fn luma(
         filter,
         u.edges,
         skip,
-    );
-    Done {
-        status: r.status,
-        pieces: r.pieces,
-    }
+    )
 }
 
 fn user_in_advances(
@@ -106,7 +98,7 @@ fn user_in_advances(
     noskip: &[u16],
     q: i32,
     skip: &[u16],
-) -> Done {
+) -> Restored {
     let opened = units::open_n(
         p,
         u.off,
@@ -147,7 +139,7 @@ fn user_in_advances(
         pieces = std::num::wrapping_add_usize(pieces, a.pieces);
         s = a.state;
     }
-    Done { status, pieces }
+    Restored { status, pieces }
 }
 
 pub fn user(
@@ -156,13 +148,13 @@ pub fn user(
     left: &[u8],
     top: &[u8],
     bottom: &[u8],
-    filters: &[i8; 72],
+    filters: &[i8],
     map: &[u8],
     subclass: &[u8],
     noskip: &[u16],
     q: i32,
     skip: &[u16],
-) -> Done {
+) -> Restored {
     if in_advances(u.k) {
         return user_in_advances(
             u,
@@ -178,7 +170,7 @@ pub fn user(
             skip,
         );
     }
-    let r = units::ns_wiener_multi_8bpc(
+    units::ns_wiener_multi_8bpc(
         p,
         u.off,
         u.stride,
@@ -196,11 +188,7 @@ pub fn user(
         q,
         u.edges,
         skip,
-    );
-    Done {
-        status: r.status,
-        pieces: r.pieces,
-    }
+    )
 }
 
 fn pretrained_in_advances(
@@ -215,7 +203,7 @@ fn pretrained_in_advances(
     noskip: &[u16],
     q: i32,
     skip: &[u16],
-) -> Done {
+) -> Restored {
     let opened = units::open_p(
         p,
         u.off,
@@ -256,7 +244,7 @@ fn pretrained_in_advances(
         pieces = std::num::wrapping_add_usize(pieces, a.pieces);
         s = a.state;
     }
-    Done { status, pieces }
+    Restored { status, pieces }
 }
 
 pub fn pretrained(
@@ -265,13 +253,13 @@ pub fn pretrained(
     left: &[u8],
     top: &[u8],
     bottom: &[u8],
-    filters: &[i16; 52],
+    filters: &[i16],
     map: &[u8],
     subclass: &[u8],
     noskip: &[u16],
     q: i32,
     skip: &[u16],
-) -> Done {
+) -> Restored {
     if in_advances(u.k) {
         return pretrained_in_advances(
             u,
@@ -287,7 +275,7 @@ pub fn pretrained(
             skip,
         );
     }
-    let r = units::pc_wiener_8bpc(
+    units::pc_wiener_8bpc(
         p,
         u.off,
         u.stride,
@@ -305,11 +293,7 @@ pub fn pretrained(
         q,
         u.edges,
         skip,
-    );
-    Done {
-        status: r.status,
-        pieces: r.pieces,
-    }
+    )
 }
 
 fn chroma_in_advances<'a>(
@@ -324,7 +308,7 @@ fn chroma_in_advances<'a>(
     luma_top: &'a [u8],
     luma_bottom: &'a [u8],
     skip: &[u16],
-) -> Done {
+) -> Restored {
     let opened = units::open_c(
         p,
         u.off,
@@ -370,7 +354,7 @@ fn chroma_in_advances<'a>(
         pieces = std::num::wrapping_add_usize(pieces, a.pieces);
         s = a.state;
     }
-    Done { status, pieces }
+    Restored { status, pieces }
 }
 
 pub fn chroma<'a>(
@@ -380,12 +364,12 @@ pub fn chroma<'a>(
     left: &[u8],
     top: &[u8],
     bottom: &[u8],
-    filter: &[i8; 18],
+    filter: &[i8],
     luma: &'a [u8],
     luma_top: &'a [u8],
     luma_bottom: &'a [u8],
     skip: &[u16],
-) -> Done {
+) -> Restored {
     if in_advances(u.k) {
         return chroma_in_advances(
             u,
@@ -401,7 +385,7 @@ pub fn chroma<'a>(
             skip,
         );
     }
-    let r = units::ns_wiener_single_uv_8bpc(
+    units::ns_wiener_single_uv_8bpc(
         p,
         u.off,
         u.stride,
@@ -425,9 +409,5 @@ pub fn chroma<'a>(
         l.kind,
         u.edges,
         skip,
-    );
-    Done {
-        status: r.status,
-        pieces: r.pieces,
-    }
+    )
 }
