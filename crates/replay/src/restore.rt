@@ -17,8 +17,9 @@ fn rows(k: usize, i: usize) -> usize {
     }
 }
 
+// Each set of edge bits comes both ways for each operation.
 fn in_advances(k: usize) -> bool {
-    k / 4 % 2 == 1
+    (k / 4 + k / 256) % 2 == 1
 }
 
 fn luma_in_advances(
