@@ -17,6 +17,9 @@
 //!
 //!     compare vectors SEED COUNT    prints an antt file with COUNT random units of each of the four operations and what
 //!                                   the Rust makes of them, to be checked against the definition by computation
+//!     compare cards SEED FOLDER     writes a corpus of cards, their lengths and the answers expected (cards, lengths, stdout)
+//!     compare replay                prints what the Rust makes of the units of the Rattle program replay
+//!     compare traps                 prints what the Rust makes of the units of the Rattle program traps
 //!     compare leaves SEED COUNT     COUNT random runs of each leaf
 //!     compare grid SEED             every width, height, set of edge bits, pair, kind and shape of masks as whole units, and
 //!                                   the class index of every block
@@ -32,6 +35,7 @@
 mod advances;
 #[cfg(feature = "linked")]
 mod bench;
+mod cards;
 #[cfg(feature = "linked")]
 mod bench_units;
 #[cfg(feature = "linked")]
@@ -45,6 +49,7 @@ mod grid;
 #[cfg(feature = "linked")]
 mod leaves;
 mod random;
+mod replay;
 #[cfg(feature = "linked")]
 mod refusals;
 #[cfg(feature = "linked")]
@@ -53,6 +58,7 @@ mod runs;
 mod stand_ins;
 #[cfg(feature = "linked")]
 mod table;
+mod traps;
 #[cfg_attr(not(feature = "linked"), allow(dead_code))]
 mod units;
 mod vectors;
@@ -69,7 +75,7 @@ include!(concat!(env!("OUT_DIR"), "/reference.rs"));
 
 fn usage() -> ! {
     eprintln!(
-        "usage: compare vectors | leaves | units | advances | refusals SEED COUNT, grid SEED, differences, bench"
+        "usage: compare vectors | leaves | units | advances | refusals SEED COUNT, grid SEED, cards SEED FOLDER, replay, traps, differences, bench"
     );
     std::process::exit(2);
 }
@@ -116,6 +122,11 @@ fn main() {
     let words: Vec<&str> = args.iter().map(String::as_str).collect();
     match words[..] {
         ["vectors", seed, count] => print!("{}", vectors::file(number(seed), number(count))),
+        ["cards", seed, folder] => {
+            cards::write(number(seed), folder.as_ref()).expect("the folder can be written");
+        }
+        ["replay"] => print!("{}", replay::lines()),
+        ["traps"] => print!("{}", traps::lines()),
         _ => linked(&words),
     }
 }
