@@ -30,9 +30,9 @@ exchanged (suc m) n f =
     let a = exchanged m n f in
     (λ k. a k + sumN n (λ j. f m j)) ∙ sum-both n (λ j. sumN m (λ i. f i j)) (λ j. f m j)
 
-pub six-terms : (f : ℕ → ℕ) → f 0 + f 1 + f 2 + f 3 + f 4 + f 5 ≡ sumN 6 f
+pub six-terms : (f : ℕ → ℕ) {a b c d e g : ℕ} → a ≡ f 0 → b ≡ f 1 → c ≡ f 2 → d ≡ f 3 → e ≡ f 4 → g ≡ f 5 → a + b + c + d + e + g ≡ sumN 6 f
 unfolding sumN
-six-terms f = omega arith
+six-terms f p q r s t u = omega arith
 
 pub sum-none : (f : ℕ → ℕ) → 0 ≡ sumN 0 f
 unfolding sumN

@@ -1,8 +1,7 @@
 -- `class_rows::column_sum` meets its contract: six bends are added up. Assumes nothing.
-use mathlib.Core.Path.{_∙_}
-use Prim.Native.Nat.{_+_}
 use native.Mathlib.Omega.{arith}
 use borrow.Author.Needs.{needs}
+use Rattle.class_rows.specs.Features.{columnBend}
 use Rattle.class_rows.proofs.Sums.{six-terms}
 use Rattle.class_rows.proofs.column_sum.Statement.{statement}
 use Rattle.class_rows.proofs.column_sum.Tie as tie
@@ -42,13 +41,13 @@ add-result-5 c = search needs
 
 returns : tie.Need-returns
 returns c =
-    let a = c .before .before .before .before .before .bend-at .ensures .0 in
-    let b = c .before .before .before .before .bend-at2 .ensures .0 in
-    let d = c .before .before .before .bend-at3 .ensures .0 in
-    let e = c .before .before .bend-at4 .ensures .0 in
-    let f = c .before .bend-at5 .ensures .0 in
-    let g = c .bend-at6 .ensures .0 in
-    ((λ k. a k + b k + d k + e k + f k + g k) ∙ six-terms _, omega arith)
+    let s = c .before .before .before .before .before in
+    let a = s .before .before .args in (
+      six-terms (columnBend (a .rows .now) (a .indices .now) (a .a) (a .m) (a .z))
+          (s .bend-at .ensures .0) (c .before .before .before .before .bend-at2 .ensures .0) (c .before .before .before .bend-at3 .ensures .0)
+          (c .before .before .bend-at4 .ensures .0) (c .before .bend-at5 .ensures .0) (c .bend-at6 .ensures .0),
+      omega arith,
+    )
 
 pub column-sum-spec : {M : Type 1} → statement M
 column-sum-spec =
