@@ -12,7 +12,7 @@ use Rattle.definition.specs.Numbers.{sumN}
 use Rattle.definition.specs.ClassIndex.{feature}
 use Rattle.definition.specs.Rows.{outsideUnless}
 use Rattle.definition.specs.Refusals.{indicesUpTo, classStatus}
-use Rattle.class_index.specs.Answers.{featuresStatus, featureSums, orZero, Added, Summed}
+use Rattle.class_index.specs.Answers.{featuresStatus, placeStatus, featureSums, orZero, Added, Summed}
 use Rattle.laws.proofs.Ints.{never}
 use Rattle.laws.proofs.Passes.{both, pass-at}
 
@@ -69,6 +69,22 @@ class-open rows indices noskip bx by bh e =
       small = indices-small indices (not-false (indicesUpTo 9 indices) (d .1));
       masks = ltb-false noskip bh (r .0);
     }
+
+-- the place alone
+pub record Placed (noskip bx by bh : ℕ) : Type 0 where
+  pub column : bx ≤ 15
+  pub line : by < bh
+  pub limit : bh ≤ 16
+  pub masks : bh ≤ noskip
+
+pub place-open : (noskip bx by bh : ℕ) → placeStatus noskip bx by bh ≡ 0 → Placed noskip bx by bh
+unfolding placeStatus
+place-open noskip bx by bh e =
+    let p = past (ltb 15 bx || ltb 16 bh || leb bh by) 12 (cond (ltb noskip bh) 9 0) (omega arith) e in
+    let r = past (ltb noskip bh) 9 0 (omega arith) (p .1) in
+    let a = neither (ltb 15 bx || ltb 16 bh) (leb bh by) (p .0) in
+    let b = neither (ltb 15 bx) (ltb 16 bh) (a .0) in
+    record { column = ltb-false 15 bx (b .0); line = leb-false bh by (a .1); limit = ltb-false 16 bh (b .1); masks = ltb-false noskip bh (r .0) }
 
 -- a refused call answers zeros
 pub sums-refused : (status : ℕ) (s : ℤ → ℤ → ℕ) → (status ≡ 0 → ⊥) → 0 ∷ 0 ∷ 0 ∷ [] ≡ featureSums status s

@@ -1,6 +1,6 @@
 -- What the class index and its parts answer: each status and each value, refused calls included. Rows are ten of 76 bytes, reached by ten row indices,
 -- of which the fifth is the block's first row; the unit's first sample is byte 6.
-use mathlib.Core.Bool.{_&&_}
+use mathlib.Core.Bool.{cond, _&&_, _||_}
 use mathlib.Core.List.{List, [], _∷_}
 use mathlib.Core.Path.{_≡_}
 use Prim.Native.Nat.{ℕ, zero, suc, _+_, _*_, _≤_}
@@ -33,6 +33,10 @@ termStatus i = outsideUnless (ltb i 4)
 -- the features of a block: rows under 760 bytes, a row index over 9 or a block column over 15 are outside
 unfoldable pub featuresStatus : ℕ → List ℕ → ℕ → ℕ
 featuresStatus rows indices bx = outsideUnless (leb rowsSize rows && indicesUpTo 9 indices && leb bx lastColumn)
+
+-- the place of a block: as `classStatus` has it of rows that lie inside
+unfoldable pub placeStatus : ℕ → ℕ → ℕ → ℕ → ℕ
+placeStatus noskip bx by bh = cond (ltb lastColumn bx || ltb 16 bh || leb bh by) 12 (cond (ltb noskip bh) 9 0)
 
 -- the three features, and zeros where refused
 abbrev pub featureSums : ℕ → (ℤ → ℤ → ℕ) → List ℕ

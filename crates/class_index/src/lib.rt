@@ -5,9 +5,9 @@ ghost use Prim.Native.Nat.{ℕ, _+_, _-_, _*_, _/_, _%_, _^_, _<_, _≤_, min};
 ghost use lib.IntN.{ℤ, pos, negsuc, natAbs, _+ℤ_, _-ℤ_, _*ℤ_};
 ghost use lib.ListN.{length, getD};
 ghost use Rattle.definition.specs.Numbers.{bitSet, toI32};
-ghost use Rattle.definition.specs.ClassIndex.{prod, by8192, weight, term, bin, skipSum, classIndex};
+ghost use Rattle.definition.specs.ClassIndex.{prod, by8192, weight, term, bin, skipSum, skipFactor, indexOf, classIndex};
 ghost use Rattle.definition.specs.Refusals.{classStatus};
-ghost use Rattle.class_index.specs.Answers.{blockFlat, orZero, orZeroZ, termStatus, featuresStatus, featureSums, Summed};
+ghost use Rattle.class_index.specs.Answers.{blockFlat, orZero, orZeroZ, termStatus, featuresStatus, placeStatus, featureSums, Summed};
 use tables::MODE_OFFSETS;
 use tables::MODE_WEIGHTS;
 use tables::PC_WIENER_NORMALIZER;
@@ -225,7 +225,7 @@ fn skip_sum(noskip: &[u16], bh: usize, bx: usize, by: usize) -> u32
 
 // A feature sum times its factor.
 fn times(f: u32, factor: u32) -> i32
-    requires { ⌜ (f ≤ 18360) × (factor ≤ 3739) ⌝ }
+    requires { ⌜ (f ≤ 65535) × (factor ≤ 3739) ⌝ }
     ensures { λ r. ⌜ r ≡ pos (f * factor) ⌝ }
 {
     (f * factor) as i32
@@ -233,7 +233,7 @@ fn times(f: u32, factor: u32) -> i32
 
 // The sums, scaled entry by entry.
 fn scaled(f: [u32; 3]) -> [i32; 3]
-    requires { ⌜ (getD f 0 0 ≤ 18360) × (getD f 1 0 ≤ 18360) × (getD f 2 0 ≤ 18360) ⌝ }
+    requires { ⌜ (getD f 0 0 ≤ 65535) × (getD f 1 0 ≤ 65535) × (getD f 2 0 ≤ 65535) ⌝ }
     ensures { λ r. ⌜ (getD r 0 (pos 0) ≡ pos (getD f 0 0 * 3739)) × (getD r 1 (pos 0) ≡ pos (getD f 1 0 * 3273)) × (getD r 2 (pos 0) ≡ pos (getD f 2 0 * 3074)) ⌝ }
 {
     [
@@ -267,6 +267,16 @@ fn lut_index(f: [i32; 3], qstep: i32, tskip: u8) -> u32
     let b = feature_bin(f[1], qstep, tskip, 2);
     let c = feature_bin(f[2], qstep, tskip, 3);
     512 * first + 64 * a + 8 * b + c
+}
+
+// The index, from the features.
+fn index_of(sums: [u32; 3], noskip: &[u16], base_q: i32, bx: usize, by: usize, bh: usize) -> u32
+    requires { ⌜ (getD sums 0 0 ≤ 65535) × (getD sums 1 0 ≤ 65535) × (getD sums 2 0 ≤ 65535) ⌝ }
+    requires { ⌜ (bx ≤ 15) × (by < bh) × (bh ≤ 16) × (bh ≤ length (now noskip)) ⌝ }
+    ensures { λ r. ⌜ r ≡ indexOf (getD sums 0 0) (getD sums 1 0) (getD sums 2 0) «base_q» (7 * skipSum (now (noskip .entry)) bh bx by) ⌝ }
+{
+    let tskip = 7 * skip_sum(noskip, bh, bx, by);
+    lut_index(scaled(sums), base_q, tskip as u8)
 }
 
 #[repr(C)]
@@ -327,7 +337,47 @@ pub fn get_class_lut_idx_8bpc(
         return ClassIndex { status, index: 0 };
     }
     let sums = feature_sums(rows, &indices, bx);
-    let tskip = 7 * skip_sum(noskip, bh, bx, by);
-    let index = lut_index(scaled(sums), base_q, tskip as u8);
+    let index = index_of(sums, noskip, base_q, bx, by, bh);
+    ClassIndex { status: 0, index }
+}
+
+fn place_status(noskip: usize, bx: usize, by: usize, bh: usize) -> u8
+    ensures { λ r. ⌜ r ≡ placeStatus noskip bx by bh ⌝ }
+{
+    if 15 < bx {
+        return 12;
+    }
+    if 16 < bh {
+        return 12;
+    }
+    if bh <= by {
+        return 12;
+    }
+    if noskip < bh {
+        return 9;
+    }
+    0
+}
+
+// The same from the block's three features, for who works out those of a whole block row.
+pub fn class_of_features(
+    vertical: u16,
+    falling: u16,
+    rising: u16,
+    noskip: &[u16],
+    base_q: i32,
+    bx: usize,
+    by: usize,
+    bh: usize,
+) -> ClassIndex
+    ensures { λ r. ⌜ r .status ≡ placeStatus (length (now (noskip .entry))) bx by bh ⌝ }
+    ensures { λ r. ⌜ r .index ≡ orZero (placeStatus (length (now (noskip .entry))) bx by bh) (indexOf vertical falling rising «base_q» (skipFactor * skipSum (now (noskip .entry)) bh bx by)) ⌝ }
+{
+    let status = place_status(noskip.len(), bx, by, bh);
+    if status != 0 {
+        return ClassIndex { status, index: 0 };
+    }
+    let sums: [u32; 3] = [vertical as u32, falling as u32, rising as u32];
+    let index = index_of(sums, noskip, base_q, bx, by, bh);
     ClassIndex { status: 0, index }
 }

@@ -1,5 +1,5 @@
 pub mod Taps
 pub mod Statuses
 pub mod Writes
-pub mod Raising
+pub mod Lessened
 pub mod Gathering

@@ -2,7 +2,7 @@
 use mathlib.Core.Path.{_≡_, refl}
 use mathlib.Core.Bool.{Bool, true, false, _&&_}
 use mathlib.Core.List.{List}
-use Prim.Native.Nat.{ℕ, _+_, _-_, _*_, _≤_, _<_}
+use Prim.Native.Nat.{ℕ, _+_, _-_, _*_, _≤_, _<_, min}
 use native.Mathlib.Omega.{arith}
 use native.Mathlib.Nat.{mul-le-mul, le-refl, mul-comm, add-mul}
 use lib.Dec.{leb}
@@ -12,7 +12,7 @@ use Rattle.definition.specs.Rows.{outsideUnless}
 use Rattle.definition.specs.Refusals.{indicesUpTo}
 use Rattle.laws.proofs.Passes.{both, pass-at}
 use Rattle.filter.specs.Runs.{runStatus, uvStatus, windowInside}
-use Rattle.filter.specs.Windows.{ownInside, Rows, Window}
+use Rattle.filter.specs.Windows.{ownInside, Rows, Window, Eight}
 use Rattle.filter.specs.Shapes.{Gatherable}
 
 inside : (b : Bool) → outsideUnless b ≡ 0 → b ≡ true
@@ -104,3 +104,9 @@ uv-inside dst rows indices col0 lcol0 step n e =
         short = omega (arith, o-window .0, o-window .1);
       };
     }
+
+-- the eight samples from `at` on, which is where sample x stands, or where the last eight of the rows begin
+pub eight-inside : {dst : ℕ} {rows indices : List ℕ} {col0 n : ℕ} → OwnInside 4 dst rows indices col0 n → (x at : ℕ) → x < n → at ≡ min (col0 + x) 64 → Eight rows indices at
+eight-inside h x at l e =
+    let w = h .windows x l in
+    record { window = λ j k. record { inside = w .inside; left = omega (arith, w .left); right = omega arith } }

@@ -3,11 +3,12 @@ use mathlib.Core.Path.{_≡_, refl, ap, _∙_}
 use mathlib.Core.List.{List}
 use Prim.Native.Nat.{ℕ, zero, suc, _+_, _≤_, _<_, zero-le}
 use native.Mathlib.Nat.{zero-add}
+use native.Mathlib.Decide.{ℕ-discrete}
 use native.Mathlib.Omega.{arith}
-use lib.ListN.{length, set}
-use lib.Seq.{sets, length-sets}
+use lib.ListN.{length, getD, set, length-set}
+use lib.Seq.{sets, length-sets, getD-set-same, getD-set-other}
 use Rattle.definition.specs.Rows.{tab, unlessRefused}
-use Rattle.laws.proofs.Lists.{sets-more}
+use Rattle.laws.proofs.Lists.{sets-more, sets-run, tab-cong}
 
 -- after x turns of n, d is what was written over d₀; `asked` is what each turn may use
 pub record Writing (asked : Type 0) (f : ℕ → ℕ) (d₀ : List ℕ) (n : ℕ) (d : List ℕ) (x : ℕ) : Type 0 where
@@ -25,6 +26,18 @@ module _ {asked : Type 0} {f : ℕ → ℕ} {d₀ : List ℕ} {n : ℕ} {d : Lis
   pub one-more : {v : ℕ} → x < n → v ≡ f x → Writing asked f d₀ n (set d x v) (x + 1)
   one-more l e = record { inside = h .inside; turns = omega arith; is = rw (h .is, e) (rw (zero-add x) at (sets-more x d₀ 0 f)) }
 
+  -- m more at once, from `skip` on of a list that holds them
+  pub some-more : {d′ : List ℕ} (eight : List ℕ) (skip m : ℕ) → x + m ≤ n → d′ ≡ sets d x (tab m (λ j. getD eight (skip + j) 0)) → ((j : ℕ) → j < m → getD eight (skip + j) 0 ≡ f (x + j)) →
+      Writing asked f d₀ n d′ (x + m)
+  some-more eight skip m l e v =
+      record {
+        inside = h .inside;
+        turns = l;
+        is =
+            e ∙ ap (λ (w : List ℕ). sets d x w) (tab-cong m (λ j. getD eight (skip + j) 0) (λ j. f (x + j)) v) ∙
+            rw (h .is) (rw (zero-add x) at (sets-run m x d₀ 0 f));
+      }
+
   -- at the end, under a status of 0
   pub written : {status : ℕ} → status ≡ 0 → n ≤ x → d ≡ unlessRefused status d₀ (sets d₀ 0 (tab n f))
   written z l = let e : x ≡ n = omega (arith, h .turns) in rw (z, ← e) (h .is)
@@ -33,3 +46,19 @@ module _ {asked : Type 0} {f : ℕ → ℕ} {d₀ : List ℕ} {n : ℕ} {d : Lis
 pub refused : (status : ℕ) (d w : List ℕ) → (status ≡ 0 → ⊥) → d ≡ unlessRefused status d w
 refused zero d w h = absurd (h refl)
 refused (suc s) d w h = refl
+
+-- a local list of n, of which the first j are f 0, f 1, ..
+pub record Filled (f : ℕ → ℕ) (n : ℕ) (out : List ℕ) (j : ℕ) : Type 0 where
+  pub size : length out ≡ n
+  pub is : (i : ℕ) → i < j → getD out i 0 ≡ f i
+
+pub one-filled : {f : ℕ → ℕ} {n : ℕ} {out : List ℕ} {j v : ℕ} → Filled f n out j → j < n → v ≡ f j → Filled f n (set out j v) (j + 1)
+one-filled {f} {n} {out} {j} {v} h l e =
+    record {
+      size = simp length-set (h .size);
+      is = λ i k.
+          elim (ℕ-discrete i j) [
+            | yes q ↦ rw (q, getD-set-same out j v 0 (omega (arith, h .size))) e
+            | no ne ↦ rw (getD-set-other out j i v 0 ne) (h .is i (omega arith))
+          ];
+    }

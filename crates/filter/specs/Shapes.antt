@@ -1,4 +1,4 @@
--- The two runs that are not written as the definition reads: a pretrained set that is raised, and luma that is gathered at chroma's resolution.
+-- Luma that is gathered at chroma's resolution.
 use Prim.Native.Nat.{ℕ, _+_, _*_, _≤_, _<_}
 use mathlib.Core.List.{List}
 use mathlib.Core.Path.{_≡_}
@@ -6,17 +6,9 @@ use lib.IntN.{ℤ, pos, natAbs, _+ℤ_, _-ℤ_, _*ℤ_}
 use lib.ListN.{getD}
 use Rattle.definition.specs.Numbers.{sumZ}
 use Rattle.definition.specs.Rows.{rowBytes, lumaRowBytes, lumaRowsAt}
-use Rattle.definition.specs.Sample.{dyOf, dxOf, centre, pairOf, nsTap, pretrainedSum, nsConfigUv, nsConfigUvFromY, pcConfig}
+use Rattle.definition.specs.Sample.{dyOf, dxOf, centre, nsTap, nsConfigUv, nsConfigUvFromY}
 use Rattle.filter.specs.Runs.{coefficients}
-use Rattle.filter.specs.Windows.{Rows, Summed, numbers}
-
--- the first n numbers of a filter, each 32768 more
-pub record Raised (filter : List ℤ) (n : ℕ) (set : List ℕ) : Type 0 where
-  pub is : (k : ℕ) → k < n → pos (getD set k 0) ≡ getD filter k (pos 0) +ℤ pos 32768
-
--- the sum of a raised set, less 32768 times what it multiplies
-abbrev pub loweredSum : (ℤ → ℤ → ℕ) → List ℕ → ℤ
-loweredSum s set = pretrainedSum s (numbers set) -ℤ pos 32768 *ℤ (pos (centre s) +ℤ sumZ 12 (λ k. pos (pairOf s pcConfig k)))
+use Rattle.filter.specs.Windows.{Rows, Summed}
 
 -- every `step`-th byte from `from` on
 abbrev pub every : List ℕ → ℕ → ℕ → ℕ → ℕ

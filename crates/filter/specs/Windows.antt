@@ -4,10 +4,11 @@ use mathlib.Core.Bool.{Bool, _&&_}
 use mathlib.Core.List.{List}
 use lib.Dec.{leb}
 use mathlib.Core.Path.{_≡_}
-use lib.IntN.{ℤ, pos, negℤ, natAbs, _*ℤ_}
+use lib.IntN.{ℤ, pos, negℤ, natAbs, _+ℤ_, _-ℤ_, _*ℤ_}
+use Rattle.definition.specs.Numbers.{sumZ}
 use Rattle.definition.specs.Rows.{rowBytes, lumaFlat, chromaFlat}
 use Rattle.definition.specs.Refusals.{indicesUpTo}
-use Rattle.definition.specs.Sample.{centre, pairOf, nsTap, pcTap, nsConfigY, nsConfigUv, pcConfig}
+use Rattle.definition.specs.Sample.{centre, pairOf, nsTap, nsConfigY, nsConfigUv, pcConfig}
 use Rattle.laws.proofs.Sums.{Partial}
 use Rattle.filter.specs.Runs.{coefficients, windowInside}
 use lib.ListN.{length, getD}
@@ -44,21 +45,27 @@ pub record Summed (asked : Type 0) (C : ℤ) (f : ℕ → ℤ) (B D k : ℕ) (s 
   pub window : asked
   pub sum : Partial C f B D k s
 
--- the numbers of a raised set, as the definition takes a filter
-abbrev pub numbers : List ℕ → ℕ → ℤ
-numbers set k = pos (getD set k 0)
+-- eight windows side by side
+pub record Eight (rows indices : List ℕ) (at : ℕ) : Type 0 where
+  pub window : (j : ℕ) → j < 8 → Window 0 76 4 rows indices (at + j)
 
--- what a pretrained filter multiplies, added up: the centre and the pairs of k taps
-abbrev pub PairsPartial : List ℕ → List ℕ → ℕ → ℕ → ℤ → Type 0
-PairsPartial rows indices col =
-    Summed (Window 0 76 4 rows indices col)
-    (pos (centre (lumaFlat rows indices col))) (λ k. pos (pairOf (lumaFlat rows indices col) pcConfig k)) 255 510
+-- a pretrained filter's tap, whose pair is less 255, and what the twelve of them take off
+abbrev pub lessTap : (ℤ → ℤ → ℕ) → (ℕ → ℤ) → ℕ → ℤ
+lessTap s c k = (pos (pairOf s pcConfig k) -ℤ pos 255) *ℤ c k
 
--- the sum of a raised set after k taps
-abbrev pub PretrainedPartial : List ℕ → List ℕ → ℕ → List ℕ → ℕ → ℤ → Type 0
-PretrainedPartial rows indices col set =
+abbrev pub takenOff : (ℕ → ℤ) → ℤ
+takenOff c = pos 255 *ℤ sumZ 12 c
+
+pub record TakenOff (filter : List ℤ) (off : ℤ) : Type 0 where
+  pub is : off ≡ takenOff (coefficients filter)
+  pub bound : natAbs off ≤ 100270080
+
+-- the sum of a pretrained filter after k of those taps
+abbrev pub PretrainedPartial : List ℕ → List ℕ → ℕ → List ℤ → ℕ → ℤ → Type 0
+PretrainedPartial rows indices col filter =
     Summed (Window 0 76 4 rows indices col)
-    (pos (centre (lumaFlat rows indices col)) *ℤ numbers set 12) (pcTap (lumaFlat rows indices col) (numbers set)) 33422850 33422850
+    (takenOff (coefficients filter) +ℤ pos (centre (lumaFlat rows indices col)) *ℤ coefficients filter 12)
+    (lessTap (lumaFlat rows indices col) (coefficients filter)) 108625920 25067520
 
 -- the sums of the other filters after k taps
 module _ (rows indices : List ℕ) (col : ℕ) (filter : List ℤ) where

@@ -1,16 +1,17 @@
 // filter.rs: the three filter runs. Each writes the restored samples of one stretch into the part of the plane that it is lent.
-// Rows are one flat array of padded rows, reached by ten row indices. Small arrays are copied to locals before a loop, so that
-// a store to the destination cannot be taken to change them.
+// Rows are one flat array of padded rows, reached by ten row indices. Luma and pretrained samples are worked out eight at a time in a local, which no store to the
+// destination can be taken to change; the last eight end with the rows, so that none leaves them. Their filter is read anew for each eight: the compiler then
+// sees that its numbers are short.
 ghost use mathlib.Core.Path.{_≡_};
-ghost use Prim.Native.Nat.{ℕ, _+_, _*_, _^_, _<_, _≤_};
+ghost use Prim.Native.Nat.{ℕ, _+_, _*_, _^_, _<_, _≤_, min};
 ghost use lib.IntN.{pos, natAbs, _+ℤ_, _-ℤ_, _*ℤ_};
-ghost use lib.ListN.{length};
+ghost use lib.ListN.{length, getD};
 ghost use lib.Seq.{sets};
 ghost use Rattle.definition.specs.Rows.{tab, flatAround, lumaFlat, chromaFlat};
-ghost use Rattle.definition.specs.Sample.{limit8, rounded, centre};
+ghost use Rattle.definition.specs.Sample.{limit8, rounded, centre, lumaSample, pretrainedSample};
 ghost use Rattle.filter.specs.Runs.{runStatus, uvStatus, lumaRun, pretrainedRun, chromaRun, coefficients};
-ghost use Rattle.filter.specs.Windows.{ownInside, Rows, Window, Spot, PairAt, LumaPartial, PretrainedPartial, PairsPartial, ChromaPartial};
-ghost use Rattle.filter.specs.Shapes.{Raised, loweredSum, every, Gatherable, Gathered, compactAt, compactSum, FromLumaPartial};
+ghost use Rattle.filter.specs.Windows.{ownInside, Rows, Window, Eight, Spot, PairAt, TakenOff, LumaPartial, PretrainedPartial, ChromaPartial};
+ghost use Rattle.filter.specs.Shapes.{every, Gatherable, Gathered, compactAt, compactSum, FromLumaPartial};
 use tables::PC_WIENER_CONFIG;
 use tables::WIENER_NS_CONFIG_UV;
 use tables::WIENER_NS_CONFIG_UV_FROM_Y;
@@ -121,12 +122,12 @@ fn ns_tap(s: i32, p: u32, m: u8, c: i8) -> i32
     s + (p as i32 - 2 * m as i32) * c as i32
 }
 
-// s + p c
-fn pc_tap(s: i32, p: u32, c: u16) -> i32
+// s + (p - 255) c
+fn pc_tap(s: i32, p: u32, c: i16) -> i32
     requires { ⌜ (natAbs s < 2 ^ 30) × (p ≤ 510) ⌝ }
-    ensures { λ r. ⌜ (r ≡ s +ℤ pos p *ℤ pos c) × (natAbs r ≤ natAbs s + 33422850) ⌝ }
+    ensures { λ r. ⌜ (r ≡ s +ℤ (pos p -ℤ pos 255) *ℤ c) × (natAbs r ≤ natAbs s + 25067520) ⌝ }
 {
-    s + p as i32 * c as i32
+    s + (p as i32 - 255) * c as i32
 }
 
 // s + (v - m) c
@@ -189,6 +190,61 @@ fn y_sum(rows: &[u8], indices: &[usize; 10], col: usize, filter: &[i8; 16]) -> i
     y_step(s15, rows, indices, col, filter, 15)
 }
 
+// Eight samples from byte `at` on, restored by a luma filter.
+fn y_eight(rows: &[u8], indices: &[usize; 10], at: usize, filter: &[i8; 16]) -> [u8; 8]
+    requires { ⌜ Eight (now rows) (now indices) at ⌝ }
+    ensures { λ r. ⌜ ((j : ℕ) → j < 8 → getD r j 0 ≡ lumaSample limit8 (lumaFlat (now (rows .entry)) (now (indices .entry)) (at + j)) (coefficients (now (filter .entry)))) ⌝ }
+{
+    let mut out = [0u8; 8];
+    let mut j = 0;
+    while j < 8 {
+        out[j] = round_clip(y_sum(rows, indices, at + j, filter));
+        j += 1;
+    }
+    out
+}
+
+fn least(a: usize, b: usize) -> usize
+    ensures { λ r. ⌜ r ≡ min a b ⌝ }
+{
+    if a < b { a } else { b }
+}
+
+// All of eight samples, from byte x of the destination on: one store.
+fn put_eight(dst: &mut [u8], x: usize, eight: [u8; 8])
+    requires { ⌜ x + 8 ≤ length (now dst) ⌝ }
+    ensures { λ _. ⌜ now (dst .exit) ≡ sets (now (dst .entry)) x (tab 8 (λ j. getD eight j 0)) ⌝ }
+{
+    let mut j = 0;
+    while j < 8 {
+        dst[x + j] = eight[j];
+        j += 1;
+    }
+}
+
+// m of them, from `skip` on.
+fn put_some(dst: &mut [u8], x: usize, eight: [u8; 8], skip: usize, m: usize)
+    requires { ⌜ (x + m ≤ length (now dst)) × (skip + m ≤ 8) ⌝ }
+    ensures { λ _. ⌜ now (dst .exit) ≡ sets (now (dst .entry)) x (tab m (λ j. getD eight (skip + j) 0)) ⌝ }
+{
+    let mut j = 0;
+    while j < m {
+        dst[x + j] = eight[skip + j];
+        j += 1;
+    }
+}
+
+fn put(dst: &mut [u8], x: usize, eight: [u8; 8], skip: usize, m: usize)
+    requires { ⌜ (x + m ≤ length (now dst)) × (skip + m ≤ 8) ⌝ }
+    ensures { λ _. ⌜ now (dst .exit) ≡ sets (now (dst .entry)) x (tab m (λ j. getD eight (skip + j) 0)) ⌝ }
+{
+    if m == 8 {
+        put_eight(dst, x, eight);
+    } else {
+        put_some(dst, x, eight, skip, m);
+    }
+}
+
 // The n samples from byte col0 on, restored by a luma filter or by the first 16 numbers of a user set.
 pub fn ns_wiener_fir_run(
     dst: &mut [u8],
@@ -206,103 +262,93 @@ pub fn ns_wiener_fir_run(
         return status;
     }
     let ix = *indices;
-    let f = *filter;
     let mut x = 0;
     while x < n {
-        dst[x] = round_clip(y_sum(rows, &ix, col0 + x, &f));
-        x += 1;
+        let at = least(col0 + x, 64);
+        let skip = col0 + x - at;
+        let eight = y_eight(rows, &ix, at, filter);
+        let m = least(8 - skip, n - x);
+        put(dst, x, eight, skip, m);
+        x += m;
     }
     0
 }
 
-// A pretrained set, each number raised by 32768 so that none is negative: then the compiler multiplies 16 by 16 bits. What is
-// too much is taken off the sum, 32768 times the samples that were multiplied.
-fn raised(filter: &[i16; 13]) -> [u16; 13]
-    ensures { λ r. ⌜ Raised (now (filter .entry)) 13 r ⌝ }
+// 255 times the numbers of a pretrained set but its last. A tap multiplies a pair less 255, which is of either sign: then the compiler multiplies 16 by 16 bits.
+fn taken_off(filter: &[i16; 13]) -> i32
+    ensures { λ r. ⌜ TakenOff (now (filter .entry)) r ⌝ }
 {
-    let mut set = [0u16; 13];
+    let mut s: i32 = 0;
     let mut k = 0;
-    while k < 13 {
-        set[k] = (filter[k] as i32 + 32768) as u16;
+    while k < 12 {
+        s += filter[k] as i32;
         k += 1;
     }
-    set
+    255 * s
 }
 
-// The centre times the last number of a raised set.
-fn pc_start(rows: &[u8], indices: &[usize; 10], col: usize, set: &[u16; 13]) -> i32
+// The centre times the last number of a set, and what the taps will take off.
+fn pc_start(rows: &[u8], indices: &[usize; 10], col: usize, filter: &[i16; 13], off: i32) -> i32
     requires { ⌜ Window 0 76 4 (now rows) (now indices) col ⌝ }
-    ensures { λ r. ⌜ PretrainedPartial (now (rows .entry)) (now (indices .entry)) col (now (set .entry)) 0 r ⌝ }
+    requires { ⌜ TakenOff (now filter) off ⌝ }
+    ensures { λ r. ⌜ PretrainedPartial (now (rows .entry)) (now (indices .entry)) col (now (filter .entry)) 0 r ⌝ }
 {
     let m = byte_at(rows, indices, 0, ROW_BYTES, 4, col, 0, 0);
-    pc_tap(0, m as u32, set[12])
+    off + m as i32 * filter[12] as i32
 }
 
-// One tap more of a raised set.
-fn pc_step(s: i32, rows: &[u8], indices: &[usize; 10], col: usize, set: &[u16; 13], k: usize) -> i32
+// One tap more of a pretrained set.
+fn pc_step(
+    s: i32,
+    rows: &[u8],
+    indices: &[usize; 10],
+    col: usize,
+    filter: &[i16; 13],
+    k: usize,
+) -> i32
     requires { ⌜ k < 12 ⌝ }
-    requires { ⌜ PretrainedPartial (now rows) (now indices) col (now set) k s ⌝ }
-    ensures { λ r. ⌜ PretrainedPartial (now (rows .entry)) (now (indices .entry)) col (now (set .entry)) (k + 1) r ⌝ }
+    requires { ⌜ PretrainedPartial (now rows) (now indices) col (now filter) k s ⌝ }
+    ensures { λ r. ⌜ PretrainedPartial (now (rows .entry)) (now (indices .entry)) col (now (filter .entry)) (k + 1) r ⌝ }
 {
     let t = PC_WIENER_CONFIG[k];
     let p = pair_at(rows, indices, 4, col, t[0], t[1]);
-    pc_tap(s, p, set[k])
+    pc_tap(s, p, filter[k])
 }
 
-fn pc_sum(rows: &[u8], indices: &[usize; 10], col: usize, set: &[u16; 13]) -> i32
+// The sum that one sample of a pretrained filter rounds.
+fn pc_sum(rows: &[u8], indices: &[usize; 10], col: usize, filter: &[i16; 13], off: i32) -> i32
     requires { ⌜ Window 0 76 4 (now rows) (now indices) col ⌝ }
-    ensures { λ r. ⌜ PretrainedPartial (now (rows .entry)) (now (indices .entry)) col (now (set .entry)) 12 r ⌝ }
+    requires { ⌜ TakenOff (now filter) off ⌝ }
+    ensures { λ r. ⌜ PretrainedPartial (now (rows .entry)) (now (indices .entry)) col (now (filter .entry)) 12 r ⌝ }
 {
-    let s0 = pc_start(rows, indices, col, set);
-    let s1 = pc_step(s0, rows, indices, col, set, 0);
-    let s2 = pc_step(s1, rows, indices, col, set, 1);
-    let s3 = pc_step(s2, rows, indices, col, set, 2);
-    let s4 = pc_step(s3, rows, indices, col, set, 3);
-    let s5 = pc_step(s4, rows, indices, col, set, 4);
-    let s6 = pc_step(s5, rows, indices, col, set, 5);
-    let s7 = pc_step(s6, rows, indices, col, set, 6);
-    let s8 = pc_step(s7, rows, indices, col, set, 7);
-    let s9 = pc_step(s8, rows, indices, col, set, 8);
-    let s10 = pc_step(s9, rows, indices, col, set, 9);
-    let s11 = pc_step(s10, rows, indices, col, set, 10);
-    pc_step(s11, rows, indices, col, set, 11)
+    let s0 = pc_start(rows, indices, col, filter, off);
+    let s1 = pc_step(s0, rows, indices, col, filter, 0);
+    let s2 = pc_step(s1, rows, indices, col, filter, 1);
+    let s3 = pc_step(s2, rows, indices, col, filter, 2);
+    let s4 = pc_step(s3, rows, indices, col, filter, 3);
+    let s5 = pc_step(s4, rows, indices, col, filter, 4);
+    let s6 = pc_step(s5, rows, indices, col, filter, 5);
+    let s7 = pc_step(s6, rows, indices, col, filter, 6);
+    let s8 = pc_step(s7, rows, indices, col, filter, 7);
+    let s9 = pc_step(s8, rows, indices, col, filter, 8);
+    let s10 = pc_step(s9, rows, indices, col, filter, 9);
+    let s11 = pc_step(s10, rows, indices, col, filter, 10);
+    pc_step(s11, rows, indices, col, filter, 11)
 }
 
-// The samples that a pretrained filter multiplies, added up: the two of one tap more.
-fn pairs_step(s: i32, rows: &[u8], indices: &[usize; 10], col: usize, k: usize) -> i32
-    requires { ⌜ k < 12 ⌝ }
-    requires { ⌜ PairsPartial (now rows) (now indices) col k s ⌝ }
-    ensures { λ r. ⌜ PairsPartial (now (rows .entry)) (now (indices .entry)) col (k + 1) r ⌝ }
+// Eight samples from byte `at` on, restored by a pretrained set.
+fn pc_eight(rows: &[u8], indices: &[usize; 10], at: usize, filter: &[i16; 13], off: i32) -> [u8; 8]
+    requires { ⌜ Eight (now rows) (now indices) at ⌝ }
+    requires { ⌜ TakenOff (now filter) off ⌝ }
+    ensures { λ r. ⌜ ((j : ℕ) → j < 8 → getD r j 0 ≡ pretrainedSample limit8 (lumaFlat (now (rows .entry)) (now (indices .entry)) (at + j)) (coefficients (now (filter .entry)))) ⌝ }
 {
-    let t = PC_WIENER_CONFIG[k];
-    s + pair_at(rows, indices, 4, col, t[0], t[1]) as i32
-}
-
-fn pairs_sum(rows: &[u8], indices: &[usize; 10], col: usize) -> i32
-    requires { ⌜ Window 0 76 4 (now rows) (now indices) col ⌝ }
-    ensures { λ r. ⌜ PairsPartial (now (rows .entry)) (now (indices .entry)) col 12 r ⌝ }
-{
-    let s0 = byte_at(rows, indices, 0, ROW_BYTES, 4, col, 0, 0) as i32;
-    let s1 = pairs_step(s0, rows, indices, col, 0);
-    let s2 = pairs_step(s1, rows, indices, col, 1);
-    let s3 = pairs_step(s2, rows, indices, col, 2);
-    let s4 = pairs_step(s3, rows, indices, col, 3);
-    let s5 = pairs_step(s4, rows, indices, col, 4);
-    let s6 = pairs_step(s5, rows, indices, col, 5);
-    let s7 = pairs_step(s6, rows, indices, col, 6);
-    let s8 = pairs_step(s7, rows, indices, col, 7);
-    let s9 = pairs_step(s8, rows, indices, col, 8);
-    let s10 = pairs_step(s9, rows, indices, col, 9);
-    let s11 = pairs_step(s10, rows, indices, col, 10);
-    pairs_step(s11, rows, indices, col, 11)
-}
-
-// The sum that one sample of a pretrained filter rounds, by its raised set.
-fn lowered_sum(rows: &[u8], indices: &[usize; 10], col: usize, set: &[u16; 13]) -> i32
-    requires { ⌜ Window 0 76 4 (now rows) (now indices) col ⌝ }
-    ensures { λ r. ⌜ (r ≡ loweredSum (lumaFlat (now (rows .entry)) (now (indices .entry)) col) (now (set .entry))) × (natAbs r < 2 ^ 30) ⌝ }
-{
-    pc_sum(rows, indices, col, set) - 32768 * pairs_sum(rows, indices, col)
+    let mut out = [0u8; 8];
+    let mut j = 0;
+    while j < 8 {
+        out[j] = round_clip(pc_sum(rows, indices, at + j, filter, off));
+        j += 1;
+    }
+    out
 }
 
 // The n samples from byte col0 on, restored by a pretrained set.
@@ -322,11 +368,15 @@ pub fn pc_wiener_fir_run(
         return status;
     }
     let ix = *indices;
-    let set = raised(filter);
+    let off = taken_off(filter);
     let mut x = 0;
     while x < n {
-        dst[x] = round_clip(lowered_sum(rows, &ix, col0 + x, &set));
-        x += 1;
+        let at = least(col0 + x, 64);
+        let skip = col0 + x - at;
+        let eight = pc_eight(rows, &ix, at, filter, off);
+        let m = least(8 - skip, n - x);
+        put(dst, x, eight, skip, m);
+        x += m;
     }
     0
 }

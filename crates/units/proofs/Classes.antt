@@ -8,14 +8,15 @@ use native.Mathlib.Decide.{decLt, ℕ-discrete}
 use native.Mathlib.Omega.{arith}
 use lib.Dec.{ltb, leb}
 use lib.IntN.{ℤ}
-use lib.ListN.{length, getD, set}
+use lib.ListN.{length, getD, set, replicate, length-replicate}
 use lib.Seq.{sets, getD-set-other}
 use borrow.Author.Tests.{ltb-true, le-ltb, le-leb, lt-leb, eq-eqb, ne-eqb}
 use Rattle.definition.specs.Rows.{tab, rowBytes}
 use Rattle.definition.specs.ClassIndex.{bin, term, featureBin, indexOf, classIndex}
-use Rattle.definition.specs.Refusals.{classStatus, every}
+use Rattle.definition.specs.Refusals.{every}
 use Rattle.definition.specs.Units.{Operation, border, Given, Lent}
-use Rattle.class_index.specs.Answers.{blockFlat, orZero}
+use Rattle.class_rows.specs.Features.{rowStatus, featureRow, served}
+use Rattle.class_index.specs.Answers.{blockFlat, orZero, placeStatus}
 use Rattle.laws.proofs.Lists.{sets-in, sets-behind, length-tab, getD-tab}
 use Rattle.laws.proofs.Passes.{pass-all}
 use Rattle.model.specs.Rows.{padRow, own}
@@ -39,41 +40,36 @@ index-low f₀ f₁ f₂ q t =
     let d : featureBin f₂ q t 2 ≤ 7 = bin-low _ in
     omega (arith, a, b, c, d)
 
-pub class-index-low : (s : ℤ → ℤ → ℕ) (noskip : List ℕ) (q : ℤ) (bx by bh : ℕ) → classIndex s noskip q bx by bh < 4096
-class-index-low s noskip q bx by bh = index-low _ _ _ _ _
+-- the call for the features is not refused, and answers each block's
+features-serve : (rows : ℕ) (indices : List ℕ) (n : ℕ) → 760 ≤ rows → ((j : ℕ) → j < 10 → getD indices j 0 ≤ 9) → n ≤ 16 → rowStatus rows indices n ≡ 0
+unfolding rowStatus
+features-serve rows indices n size small few =
+    rw (le-leb 760 rows size, pass-all (λ i. leb i 9) indices 10 (λ k h. le-leb (getD indices k 0) 9 (small k h)), le-leb n 16 few)
 
--- the call is not refused
-pub class-serves : (rows : ℕ) (indices : List ℕ) (noskip bx by bh : ℕ) → 760 ≤ rows → bx ≤ 15 → by < bh → bh ≤ 16 → bh ≤ noskip →
-    ((j : ℕ) → j < 10 → getD indices j 0 ≤ 9) → classStatus rows indices noskip bx by bh ≡ 0
-unfolding classStatus
-class-serves rows indices noskip bx by bh size column line limit masks small =
-    rw (
-      le-ltb 15 bx column,
-      ne-eqb bh 0 (λ e. absurd (omega arith)),
-      le-ltb 16 bh limit,
-      lt-leb bh by line,
-      le-ltb rows 760 size,
-      pass-all (λ i. leb i 9) indices 10 (λ k h. le-leb (getD indices k 0) 9 (small k h)),
-      le-ltb noskip bh masks,
-    )
+pub feature-at : (rows : ℕ) (indices : List ℕ) (n status bx : ℕ) (f : ℕ → ℕ) (r : List ℕ) → 760 ≤ rows → ((j : ℕ) → j < 10 → getD indices j 0 ≤ 9) → n ≤ 16 → bx < n →
+    status ≡ rowStatus rows indices n → r ≡ featureRow (served status n) f → getD r bx 0 ≡ f bx
+feature-at rows indices n status bx f r size small few l e is =
+    let z : status ≡ 0 = e ∙ features-serve rows indices n size small few in
+    let at : getD (featureRow n f) (0 + bx) 0 ≡ getD (tab n f) bx 0 =
+    sets-in (tab n f) (replicate 16 0) 0 bx (rw (length-tab n f) l) (omega arith) in
+    rw (is, z) (rw (zero-add bx) at at ∙ getD-tab n f bx l)
+
+-- the call for the index is not refused
+place-serves : (noskip bx by bh : ℕ) → bx ≤ 15 → by < bh → bh ≤ 16 → bh ≤ noskip → placeStatus noskip bx by bh ≡ 0
+unfolding placeStatus
+place-serves noskip bx by bh column line limit masks = rw (le-ltb 15 bx column, le-ltb 16 bh limit, lt-leb bh by line, le-ltb noskip bh masks)
 
 -- what a call answers: the index, in the map
 orZero-low : (status n : ℕ) → n < 4096 → orZero status n < 4096
 orZero-low zero n h = h
 orZero-low (suc status) n h = omega arith
 
-module _ (rows indices noskip : List ℕ) (q : ℤ) (bx by bh : ℕ) where
-  abbrev pub answered : ℕ
-  answered = orZero (classStatus (length rows) indices (length noskip) bx by bh) (classIndex (blockFlat rows indices bx) noskip q bx by bh)
+module _ (noskip bx by bh index : ℕ) where
+  pub placed-low : index < 4096 → orZero (placeStatus noskip bx by bh) index < 4096
+  placed-low h = orZero-low (placeStatus noskip bx by bh) index h
 
-  pub answered-low : answered < 4096
-  answered-low =
-      orZero-low (classStatus (length rows) indices (length noskip) bx by bh) (classIndex (blockFlat rows indices bx) noskip q bx by bh)
-      (class-index-low (blockFlat rows indices bx) noskip q bx by bh)
-
-  pub answered-is : 760 ≤ length rows → bx ≤ 15 → by < bh → bh ≤ 16 → bh ≤ length noskip → ((j : ℕ) → j < 10 → getD indices j 0 ≤ 9) →
-      answered ≡ classIndex (blockFlat rows indices bx) noskip q bx by bh
-  answered-is size column line limit masks small = rw (class-serves (length rows) indices (length noskip) bx by bh size column line limit masks small)
+  pub placed-is : bx ≤ 15 → by < bh → bh ≤ 16 → bh ≤ noskip → orZero (placeStatus noskip bx by bh) index ≡ index
+  placed-is column line limit masks = rw (place-serves noskip bx by bh column line limit masks)
 
 -- an entry of a list that is all below n
 pub entry-low : (xs : List ℕ) (n k : ℕ) → k < length xs → every (λ x. ltb x n) xs ≡ true → getD xs k 0 < n

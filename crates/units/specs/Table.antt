@@ -2,7 +2,8 @@
 use mathlib.Core.Path.{_≡_}
 use mathlib.Core.Bool.{Bool, true, false, not}
 use mathlib.Core.List.{List, [], _∷_}
-use Prim.Native.Nat.{_≤_}
+use Prim.Native.Nat.{ℕ, zero, suc, _≤_, max}
+use lib.ListN.{getD}
 use Rattle.definition.specs.Units.{Operation, luma, user, pretrained, chroma, Given}
 use Rattle.definition.specs.Refusals.{Check, _⇒_, Sizes, sized, widthLimit, heightLimit, strideLimit, badStride, badPair, badPlane, badLeft, badTop, badBottom, badMasks, badFilters, badLuma}
 
@@ -54,3 +55,8 @@ pub record Within (op : Operation) (g : Given) : Type 0 where
   pub tall : g .h ≤ heightLimit
   pub near : g .stride ≤ strideLimit
   pub luma : chromatic op ≡ true → LumaWithin g
+
+-- the largest of the first k entries of a list
+unfoldable pub highest : List ℕ → ℕ → ℕ
+highest xs zero = 0
+highest xs (suc k) = max (highest xs k) (getD xs k 0)

@@ -8,8 +8,7 @@ ghost use lib.Seq.{sets};
 ghost use Rattle.definition.specs.Rows.{tab};
 ghost use Rattle.definition.specs.Units.{luma, user, pretrained, setSize};
 ghost use Rattle.definition.specs.Refusals.{unitStatus, badShape, firstPass, every};
-ghost use Rattle.definition.specs.ClassIndex.{classIndex};
-ghost use Rattle.class_index.specs.Answers.{blockFlat};
+ghost use Rattle.definition.specs.ClassIndex.{skipFactor, skipSum, indexOf};
 ghost use Rattle.model.specs.Fine.{Sized};
 ghost use Rattle.units.specs.States.{operationOf, givenOf};
 ghost use Rattle.units.specs.Windows.{rowsLent, RowsLie, ring};
@@ -44,10 +43,11 @@ fn wide(x: u8) -> usize
     x as usize
 }
 
-// The class of the block in column bx, of block row `by` of `bh`.
+// The class of the block in column bx, of block row `by` of `bh`, by its features.
 fn class_of(
-    rows: &[u8; 1080],
-    indices: &[usize; 10],
+    vertical: u16,
+    falling: u16,
+    rising: u16,
     noskip: &[u16],
     base_q: i32,
     map: &[u8],
@@ -57,12 +57,19 @@ fn class_of(
     bh: usize,
 ) -> u8
     requires { ⌜ (bx ≤ 15) × (by < bh) × (bh ≤ 16) × (bh ≤ length (now noskip)) ⌝ }
-    requires { ⌜ ((j : ℕ) → j < 10 → getD (now indices) j 0 ≤ 9) ⌝ }
     requires { ⌜ (length (now map) ≡ 4096) × (every (λ m. ltb m (length (now subclass))) (now map) ≡ true) ⌝ }
-    ensures { λ r. ⌜ r ≡ getD (now (subclass .entry)) (getD (now (map .entry)) (classIndex (blockFlat (now (rows .entry)) (now (indices .entry)) bx) (now (noskip .entry)) «base_q» bx by bh) 0) 0 ⌝ }
+    ensures { λ r. ⌜ r ≡ getD (now (subclass .entry)) (getD (now (map .entry)) (indexOf vertical falling rising «base_q» (skipFactor * skipSum (now (noskip .entry)) bh bx by)) 0) 0 ⌝ }
 {
-    let ix = *indices;
-    let found = class_index::get_class_lut_idx_8bpc(rows, ix, noskip, base_q, bx, by, bh);
+    let found = class_index::class_of_features(
+        vertical,
+        falling,
+        rising,
+        noskip,
+        base_q,
+        bx,
+        by,
+        bh,
+    );
     let index = found.index as usize;
     let m = wide(map[index]);
     subclass[m]
@@ -88,10 +95,25 @@ pub fn classes_of_row(
     let n = g.w / 4;
     let by = done / 4;
     let bh = g.h / 4;
+    let f = class_rows::row_features(rows, indices, n);
+    let vertical = f.vertical;
+    let falling = f.falling;
+    let rising = f.rising;
     let mut out = classes;
     let mut bx = 0;
     while bx < n {
-        out[bx] = class_of(rows, indices, noskip, base_q, map, subclass, bx, by, bh);
+        out[bx] = class_of(
+            vertical[bx],
+            falling[bx],
+            rising[bx],
+            noskip,
+            base_q,
+            map,
+            subclass,
+            bx,
+            by,
+            bh,
+        );
         bx += 1;
     }
     out

@@ -2,12 +2,13 @@
 // taken once the sizes and strides are within their limits.
 ghost use mathlib.Core.Path.{_≡_};
 ghost use mathlib.Core.Bool.{cond, not, _&&_, _||_};
-ghost use Prim.Native.Nat.{_-_, _/_, _%_, _^_, _≤_, _<_};
+ghost use Prim.Native.Nat.{_-_, _/_, _%_, _^_, _≤_, _<_, max};
 ghost use lib.Dec.{ltb, eqb};
+ghost use lib.ListN.{length};
 ghost use Rattle.definition.specs.Units.{chroma, border, setSize};
 ghost use Rattle.definition.specs.Refusals.{unitStatus, lowest, every, sized, outside, topRows, bottomRows, badStride, badPair, badPlane, badLeft, badTop, badBottom, badMasks, badFilters, lumaAbove, lumaDown, lumaTopRows, lumaOutside, badLuma};
 ghost use Rattle.units.specs.States.{operationOf, givenOf, sizesGiven, badMapLists};
-ghost use Rattle.units.specs.Table.{chromatic, classed, firstChecks, laterChecks, LumaWithin, Within};
+ghost use Rattle.units.specs.Table.{chromatic, classed, firstChecks, laterChecks, highest, LumaWithin, Within};
 use crate::Numbers;
 use bounds::room;
 
@@ -350,17 +351,32 @@ fn wide(x: u8) -> usize
     x as usize
 }
 
+fn larger(a: u8, b: u8) -> u8
+    ensures { λ r. ⌜ r ≡ max a b ⌝ }
+{
+    if a < b { b } else { a }
+}
+
+// The largest of a list, 0 where it is empty. It looks at all of them, so that the compiler can take sixteen at a time.
+fn most(xs: &[u8]) -> u8
+    ensures { λ r. ⌜ r ≡ highest (now (xs .entry)) (length (now (xs .entry))) ⌝ }
+{
+    let mut m: u8 = 0;
+    let mut k: usize = 0;
+    while k < xs.len() {
+        m = larger(m, xs[k]);
+        k += 1;
+    }
+    m
+}
+
 fn all_below(xs: &[u8], n: usize) -> bool
     ensures { λ r. ⌜ r ≡ every (λ x. ltb x n) (now (xs .entry)) ⌝ }
 {
-    let mut k: usize = 0;
-    while k < xs.len() {
-        if n <= wide(xs[k]) {
-            return false;
-        }
-        k += 1;
+    if n == 0 {
+        return xs.len() == 0;
     }
-    true
+    wide(most(xs)) < n
 }
 
 // Whether a class map is wrong: all its entries and all subclasses are tested, reached or not.

@@ -8,16 +8,16 @@ use Rattle.class_index.proofs.times.Statement.{statement}
 use Rattle.class_index.proofs.times.Tie as tie
 
 mul-result : tie.Need-mul-result
-mul-result c = let h : c .args .f * c .args .factor ≤ 18360 * 3739 = mul-le-mul (c .pre .0) (c .pre .1) in omega arith
+mul-result c = let h : c .args .f * c .args .factor ≤ 65535 * 3739 = mul-le-mul (c .pre .0) (c .pre .1) in omega arith
 
 cast-result : tie.Need-cast-result
 cast-result c =
-    let h : c .args .f * c .args .factor ≤ 18360 * 3739 = mul-le-mul (c .pre .0) (c .pre .1) in
+    let h : c .args .f * c .args .factor ≤ 65535 * 3739 = mul-le-mul (c .pre .0) (c .pre .1) in
     record { sfits = omega arith }
 
 returns : tie.Need-returns
 returns c =
-    let h : c .args .f * c .args .factor ≤ 18360 * 3739 = mul-le-mul (c .pre .0) (c .pre .1) in
+    let h : c .args .f * c .args .factor ≤ 65535 * 3739 = mul-le-mul (c .pre .0) (c .pre .1) in
     let b : c .args .f * c .args .factor < 2 ^ 31 = omega arith in
     toZ-pos w32 b
 

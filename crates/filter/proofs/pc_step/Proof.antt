@@ -4,8 +4,8 @@ use native.Mathlib.Omega.{arith}
 use mathlib.Core.Path.{_∙_}
 use lib.Dec.{lit<, lit≤}
 use lib.ListN.{getD}
-use lib.IntN.{pos, _+ℤ_, _*ℤ_}
-use mir.Syntax.{w32}
+use lib.IntN.{pos, _+ℤ_, _-ℤ_, _*ℤ_}
+use mir.Syntax.{w16, w32}
 use mir.Val.{toZ, ofZ}
 use mir.Facts.{toZ-ofZ}
 use Rattle.definition.specs.Sample.{pcConfig}
@@ -46,8 +46,9 @@ returns : tie.Need-returns
 returns c =
     let s = c .before .before .before .before .before .before .before in
     let p-is = pair-is 4 pcConfig tt tt (lit≤ tt) (s .args .k) (c .before .before .pair-at .ensures) in
+    let c-is = toZ-ofZ {w = w16} {z = getD (s .args .filter .now) (s .args .k) (pos 0)} (record { sfits = c .before .pc-tap-arg .given }) in
     stepped (s .pre .1) (s .fits .s) (c .pc-tap .ok)
-    (c .pc-tap .ensures .0 ∙ (λ i. toZ w32 (ofZ w32 (s .args .s)) +ℤ pos (p-is i) *ℤ pos (getD (s .args .set .now) (s .args .k) 0)))
+    (c .pc-tap .ensures .0 ∙ (λ i. toZ w32 (ofZ w32 (s .args .s)) +ℤ (pos (p-is i) -ℤ pos 255) *ℤ c-is i))
     (c .pc-tap .ensures .1)
 
 pub pc-step-spec : {M : Type 1} → statement M

@@ -1,11 +1,12 @@
 -- `filter::pc_sum` meets its contract: each call hands the next the sum so far. Assumes nothing.
 use lib.Dec.{lit<}
+use Rattle.filter.proofs.Lessened.{passed-off}
 use Rattle.filter.proofs.Taps.{onward}
 use Rattle.filter.proofs.pc_sum.Statement.{statement}
 use Rattle.filter.proofs.pc_sum.Tie as tie
 
 pc-start-requires : tie.Need-pc-start-requires
-pc-start-requires c κs = c .before .pre
+pc-start-requires c κs = (c .before .pre .0, passed-off (c .before .fits .off) (c .before .pre .1))
 
 pc-step-requires : tie.Need-pc-step-requires
 pc-step-requires c κs = (lit< tt, onward (c .pc-start .ok) (c .pc-start .ensures))

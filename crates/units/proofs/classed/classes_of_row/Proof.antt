@@ -1,59 +1,106 @@
 -- `classed::classes_of_row` meets its contract. The loop's invariant: the classes of the blocks before bx are stored. Assumes nothing.
 use mathlib.Core.Path.{_≡_, refl, _∙_, ap}
-use Prim.Native.Nat.{ℕ, _-_, _/_, _≤_}
+use Prim.Native.Nat.{ℕ, _-_, _*_, _/_, _≤_, _<_}
 use native.Mathlib.Nat.{zero-add}
 use native.Mathlib.Omega.{arith}
-use lib.IntN.{ℤ}
+use lib.IntN.{ℤ, pos, negsuc}
+use lib.ListN.{length, getD}
 use lib.Seq.{sets}
 use mir.Syntax.{w32}
 use mir.Val.{toZ, ofZ}
 use mir.Facts.{toZ-ofZ}
 use Rattle.definition.specs.Rows.{tab}
+use Rattle.definition.specs.ClassIndex.{skipSum, indexOf}
+use Rattle.class_rows.specs.Features.{featureAt}
 use Rattle.laws.proofs.Lists.{sets-more, tab-cong}
 use Rattle.units.specs.States.{givenOf}
 use Rattle.units.specs.Windows.{ring}
 use Rattle.units.specs.Classed.{classLent}
 use Rattle.units.specs.Operations.{classAt}
-use Rattle.units.proofs.Classes.{classBy, class-is}
+use Rattle.units.proofs.Classes.{classBy, class-is, feature-at}
 use Rattle.units.proofs.classed.classes_of_row.Statement.{statement}
 use Rattle.units.proofs.classed.classes_of_row.Tie as tie
 
 abbrev Inv-loop : tie.InvT-loop
-Inv-loop done rows indices noskip base-q map subclass n by bh out₀ bx₀ out bx =
-    (bx ≤ n) × (out ≡ sets out₀ 0 (tab bx (classBy rows indices noskip (toZ w32 base-q) map subclass by bh)))
+Inv-loop done rows indices noskip base-q map subclass n by bh vertical falling rising out₀ bx₀ out bx =
+    (bx ≤ n) ×
+    (out ≡ sets out₀ 0 (tab bx (classBy rows indices noskip (toZ w32 base-q) map subclass by bh))) ×
+    ((i : ℕ) → i < n → getD vertical i 0 ≡ featureAt rows indices (pos 0) i) ×
+    ((i : ℕ) → i < n → getD falling i 0 ≡ featureAt rows indices (pos 1) i) ×
+    ((i : ℕ) → i < n → getD rising i 0 ≡ featureAt rows indices (negsuc 0) i)
 
 abbrev μ-loop : tie.MeasureT-loop
-μ-loop done rows indices noskip base-q map subclass n by bh out₀ bx₀ out bx = n - bx
+μ-loop done rows indices noskip base-q map subclass n by bh vertical falling rising out₀ bx₀ out bx = n - bx
+
+row-features-requires : tie.Need-row-features-requires Inv-loop μ-loop
+row-features-requires c κs = tt
 
 loop-holds : tie.Need-loop-holds Inv-loop μ-loop
-loop-holds c = (omega arith, refl)
+loop-holds c =
+    let s = c .before .before .before .before .before .before .before .before .before .before in
+    let a = s .args in
+    let e = c .before .before .before .row-features .ensures in
+    let n : length (a .rows .now) ≡ 1080 = omega arith in
+    let few : a .g .w / 4 ≤ 16 = omega (arith, s .pre .0 .0 .high) in (
+      omega arith,
+      refl,
+      λ i h. feature-at (length (a .rows .now)) (a .indices .now) (a .g .w / 4) (c .before .before .before .row-features .result .status) i _ _ (omega arith) (s .pre .1 .0) few h (e .0) (e .1 .0),
+      λ i h. feature-at (length (a .rows .now)) (a .indices .now) (a .g .w / 4) (c .before .before .before .row-features .result .status) i _ _ (omega arith) (s .pre .1 .0) few h (e .0) (e .1 .1 .0),
+      λ i h. feature-at (length (a .rows .now)) (a .indices .now) (a .g .w / 4) (c .before .before .before .row-features .result .status) i _ _ (omega arith) (s .pre .1 .0) few h (e .0) (e .1 .1 .1),
+    )
+
+mul-class-of : tie.Need-mul-class-of Inv-loop μ-loop
+mul-class-of c = omega (arith, c .before .before .before .before .before .before .before .before .before .before .before .before .pre .0 .0 .high)
+
+array-read-class-of : tie.Need-array-read-class-of Inv-loop μ-loop
+array-read-class-of c = omega (arith, c .before .before .before .before .before .before .before .before .before .before .before .before .pre .0 .0 .high)
+
+mul-class-of-2 : tie.Need-mul-class-of-2 Inv-loop μ-loop
+mul-class-of-2 c = omega (arith, c .before .before .before .before .before .before .before .before .before .before .before .before .pre .0 .0 .high)
+
+array-read-class-of-2 : tie.Need-array-read-class-of-2 Inv-loop μ-loop
+array-read-class-of-2 c = omega (arith, c .before .before .before .before .before .before .before .before .before .before .before .before .pre .0 .0 .high)
+
+mul-class-of-3 : tie.Need-mul-class-of-3 Inv-loop μ-loop
+mul-class-of-3 c = omega (arith, c .before .before .before .before .before .before .before .before .before .before .before .before .pre .0 .0 .high)
+
+array-read-class-of-3 : tie.Need-array-read-class-of-3 Inv-loop μ-loop
+array-read-class-of-3 c = omega (arith, c .before .before .before .before .before .before .before .before .before .before .before .before .pre .0 .0 .high)
 
 class-of-requires : tie.Need-class-of-requires Inv-loop μ-loop
 class-of-requires c κs =
-    let s = c .before .before .before .before .before .before .before in
+    let s = c .before .before .before .before .before .before .before .before .before .before .before .before in
     let w = s .pre .0 .0 in
     let h = s .pre .0 .1 in
-    ((omega (arith, w .high), omega (arith, h .fours), omega (arith, h .high), s .pre .0 .3), s .pre .1)
+    ((omega (arith, w .high), omega (arith, h .fours), omega (arith, h .high), s .pre .0 .3), s .pre .1 .1)
 
 array-write-out : tie.Need-array-write-out Inv-loop μ-loop
-array-write-out c = omega (arith, c .before .before .before .before .before .before .before .before .pre .0 .0 .high)
+array-write-out c = omega (arith, c .before .before .before .before .before .before .before .before .before .before .before .before .before .pre .0 .0 .high)
 
 add-bx : tie.Need-add-bx Inv-loop μ-loop
-add-bx c = omega (arith, c .before .before .before .before .before .before .before .before .pre .0 .0 .high)
+add-bx c = omega (arith, c .before .before .before .before .before .before .before .before .before .before .before .before .before .pre .0 .0 .high)
 
 loop-less : tie.Need-loop-less Inv-loop μ-loop
 loop-less c = omega arith
 
 loop-again : tie.Need-loop-again Inv-loop μ-loop
 loop-again c =
-    let a = c .before .before .before .before .before .before .before .before .args in
+    let a = c .before .before .before .before .before .before .before .before .before .before .before .before .before .args in
     let l = c .before .before .loop in
+    let h = c .before .loop-test .taken in
     let f = classBy (a .rows .now) (a .indices .now) (a .noskip .now) (toZ w32 (ofZ w32 (a .base-q))) (a .map .now) (a .subclass .now) (a .done / 4) (a .g .h / 4) in
-    (omega arith, rw (l .inv .1, c .class-of .ensures) (rw (zero-add (l .bx)) at (sets-more (l .bx) (a .classes) 0 f)))
+    let v = l .inv .2 (l .bx) h in
+    let d = l .inv .3 (l .bx) h in
+    let r = l .inv .4 (l .bx) h in
+    let e = c .class-of .ensures ∙
+    (λ i.
+    getD (a .subclass .now)
+    (getD (a .map .now) (indexOf (v i) (d i) (r i) (toZ w32 (ofZ w32 (a .base-q))) (7 * skipSum (a .noskip .now) (a .g .h / 4) (l .bx) (a .done / 4))) 0) 0) in
+    (omega arith, rw (l .inv .1, e) (rw (zero-add (l .bx)) at (sets-more (l .bx) (a .classes) 0 f)), l .inv .2, l .inv .3, l .inv .4)
 
 returns : tie.Need-returns Inv-loop μ-loop
 returns c =
-    let s = c .before .before .before .before .before .before .before in
+    let s = c .before .before .before .before .before .before .before .before .before .before .before .before in
     let a = s .args in
     let l = c .before .loop in
     let e : l .bx ≡ a .g .w / 4 = omega arith in
@@ -72,7 +119,14 @@ classes-of-row-spec =
     (tie.spec
     Inv-loop
     μ-loop
+    row-features-requires
     loop-holds
+    mul-class-of
+    array-read-class-of
+    mul-class-of-2
+    array-read-class-of-2
+    mul-class-of-3
+    array-read-class-of-3
     class-of-requires
     array-write-out
     add-bx
