@@ -1,0 +1,38 @@
+ghost use Rattle.definition.specs.Units.{user};
+ghost use Rattle.units.specs.Operations.{answer, Answered};
+ghost use Rattle.units.specs.Advances.{callOf};
+ghost use Rattle.units.specs.Classed.{classedLent};
+use units::Advanced;
+use units::State;
+
+#[no_mangle]
+pub extern "C" fn gihvendu_advance_n(
+    state: State,
+    count: usize,
+    p: &mut [u8],
+    left: &[u8],
+    lpf: &[u8],
+    lpf_bottom: &[u8],
+    filters: &[i8],
+    map: &[u8],
+    subclass: &[u8],
+    noskip: &[u16],
+    base_q: i32,
+    skip: &[u16],
+) -> Advanced
+    ensures { λ r. ⌜ Answered r (now (p .exit)) (answer (callOf user count (classedLent (now (left .entry)) (now (lpf .entry)) (now («lpf_bottom» .entry)) (now (filters .entry)) (now (map .entry)) (now (subclass .entry)) (now (noskip .entry)) (now (skip .entry)) «base_q»)) state (now (p .entry))) ⌝ }
+{
+    state.advance_n(
+        count,
+        p,
+        left,
+        lpf,
+        lpf_bottom,
+        filters,
+        map,
+        subclass,
+        noskip,
+        base_q,
+        skip,
+    )
+}

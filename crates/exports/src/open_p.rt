@@ -1,0 +1,48 @@
+ghost use Rattle.definition.specs.Units.{pretrained};
+ghost use Rattle.units.specs.Openings.{Begun};
+ghost use Rattle.units.specs.Classed.{classedLent};
+ghost use Rattle.units.specs.Luma.{numbersY};
+use units::Opened;
+
+#[no_mangle]
+pub extern "C" fn gihvendu_open_p(
+    p: &[u8],
+    p_off: usize,
+    stride: usize,
+    left: &[u8],
+    lpf: &[u8],
+    lpf_off: usize,
+    lpf_bottom: &[u8],
+    lpf_bottom_off: usize,
+    w: usize,
+    h: usize,
+    filters: &[i16],
+    map: &[u8],
+    subclass: &[u8],
+    noskip: &[u16],
+    base_q: i32,
+    edges: usize,
+    skip: &[u16],
+) -> Opened
+    ensures { λ r. ⌜ Begun pretrained r (numbersY w h edges stride «p_off» «lpf_off» «lpf_bottom_off») (classedLent (now (left .entry)) (now (lpf .entry)) (now («lpf_bottom» .entry)) (now (filters .entry)) (now (map .entry)) (now (subclass .entry)) (now (noskip .entry)) (now (skip .entry)) «base_q») (now (p .entry)) ⌝ }
+{
+    units::open_p(
+        p,
+        p_off,
+        stride,
+        left,
+        lpf,
+        lpf_off,
+        lpf_bottom,
+        lpf_bottom_off,
+        w,
+        h,
+        filters,
+        map,
+        subclass,
+        noskip,
+        base_q,
+        edges,
+        skip,
+    )
+}
