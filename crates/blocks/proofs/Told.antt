@@ -7,7 +7,8 @@ use mathlib.Core.List.{List}
 use Rattle.definition.specs.Blocks.{stretchStart, classEnd}
 use mathlib.Core.Bool.{and-false}
 use lib.Dec.{leb}
-use Rattle.blocks.specs.Answers.{rowStatus, blockStatus, orZero, endOf}
+use Rattle.blocks.specs.Answers.{rowStatus, blockStatus, endOf}
+use Rattle.definition.specs.Rows.{orZero}
 
 pub row-in : (bw : ℕ) → bw ≤ 16 → rowStatus bw ≡ 0
 row-in bw h = rw (le-leb bw 16 h)

@@ -16,11 +16,6 @@ rowStatus bw = outsideUnless (leb bw maskBlocks)
 abbrev pub blockStatus : ℕ → ℕ → ℕ
 blockStatus bx bw = outsideUnless (leb bw maskBlocks && leb bx bw)
 
--- a number where nothing is refused, else 0
-abbrev pub orZero : ℕ → ℕ → ℕ
-orZero zero n = n
-orZero (suc status) n = 0
-
 -- the end of the stretch of one class that starts at a block; bw where no stretch is left
 abbrev pub endOf : ℕ → List ℕ → ℕ → ℕ → ℕ
 endOf mask classes start bw = cond (ltb start bw) (classEnd mask classes start bw) bw

@@ -4,7 +4,8 @@ ghost use mathlib.Core.Bool.{Bool};
 ghost use Prim.Native.Nat.{ℕ, _+_, _-_, _≤_, _<_};
 ghost use lib.ListN.{getD};
 ghost use Rattle.definition.specs.Blocks.{masked, clearBelow, stretchEnd, stretchStart, classEnd};
-ghost use Rattle.blocks.specs.Answers.{rowStatus, blockStatus, orZero, endOf};
+ghost use Rattle.blocks.specs.Answers.{rowStatus, blockStatus, endOf};
+ghost use Rattle.definition.specs.Rows.{orZero};
 
 pub struct Pieces {
     pub status: u8,

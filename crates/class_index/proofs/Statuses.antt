@@ -12,7 +12,8 @@ use Rattle.definition.specs.Numbers.{sumN}
 use Rattle.definition.specs.ClassIndex.{feature}
 use Rattle.definition.specs.Rows.{outsideUnless}
 use Rattle.definition.specs.Refusals.{indicesUpTo, classStatus}
-use Rattle.class_index.specs.Answers.{featuresStatus, placeStatus, featureSums, orZero, Added, Summed}
+use Rattle.class_index.specs.Answers.{featuresStatus, placeStatus, featureSums, Added, Summed}
+use Rattle.definition.specs.Rows.{orZero}
 use Rattle.laws.proofs.Ints.{never}
 use Rattle.laws.proofs.Passes.{both, pass-at}
 

@@ -17,11 +17,7 @@ use Rattle.definition.specs.Refusals.{rowsSize, indicesUpTo}
 abbrev pub blockFlat : List ℕ → List ℕ → ℕ → ℤ → ℤ → ℕ
 blockFlat rows indices bx = lumaFlat rows indices (rowOrigin + side * bx)
 
--- a number where nothing is refused, else 0
-abbrev pub orZero : ℕ → ℕ → ℕ
-orZero zero n = n
-orZero (suc status) n = 0
-
+-- the same of a number with a sign
 abbrev pub orZeroZ : ℕ → ℤ → ℤ
 orZeroZ zero z = z
 orZeroZ (suc status) z = pos 0

@@ -14,6 +14,11 @@ tab (suc n) f = f 0 ∷ tab n (λ i. f (suc i))
 abbrev pub outsideUnless : Bool → ℕ
 outsideUnless inside = cond inside 0 5
 
+-- a number that a call answers: what it is where nothing is refused, else 0
+abbrev pub orZero : ℕ → ℕ → ℕ
+orZero zero n = n
+orZero (suc status) n = 0
+
 -- a list after a call: written where the status is 0, else as it was
 abbrev pub unlessRefused : ℕ → List ℕ → List ℕ → List ℕ
 unlessRefused zero old written = written

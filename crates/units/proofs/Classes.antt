@@ -16,7 +16,8 @@ use Rattle.definition.specs.ClassIndex.{bin, term, featureBin, indexOf, classIn
 use Rattle.definition.specs.Refusals.{every}
 use Rattle.definition.specs.Units.{Operation, border, Given, Lent}
 use Rattle.class_rows.specs.Features.{rowStatus, featureRow, served}
-use Rattle.class_index.specs.Answers.{blockFlat, orZero, placeStatus}
+use Rattle.class_index.specs.Answers.{blockFlat, placeStatus}
+use Rattle.definition.specs.Rows.{orZero}
 use Rattle.laws.proofs.Lists.{sets-in, sets-behind, length-tab, getD-tab}
 use Rattle.laws.proofs.Passes.{pass-all}
 use Rattle.model.specs.Rows.{padRow, own}

@@ -10,7 +10,8 @@ use lib.Dec.{eqb}
 use lib.ListN.{getD}
 use borrow.Author.Tests.{eqb-true, not-true, not-false, lt-ltb}
 use Rattle.definition.specs.Blocks.{masked, firstOf, stretchEnd, stretchStart}
-use Rattle.blocks.specs.Answers.{blockStatus, orZero, endOf}
+use Rattle.blocks.specs.Answers.{blockStatus, endOf}
+use Rattle.definition.specs.Rows.{orZero}
 use Rattle.blocks.proofs.Told.{block-in}
 use Rattle.laws.proofs.Ints.{never}
 

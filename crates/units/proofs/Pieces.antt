@@ -8,7 +8,8 @@ use native.Mathlib.Numerals.{add-one}
 use native.Mathlib.Omega.{arith}
 use borrow.Author.Tests.{le-leb}
 use Rattle.definition.specs.Blocks.{maskAt, masked, clearBelow, piecesOf}
-use Rattle.blocks.specs.Answers.{rowStatus, orZero}
+use Rattle.blocks.specs.Answers.{rowStatus}
+use Rattle.definition.specs.Rows.{orZero}
 
 -- a row of blocks has at most a piece for each
 one-low : (b : Bool) → cond b 0 1 ≤ 1

@@ -14,16 +14,11 @@ use borrow.Author.Tests.{le-leb}
 use borrow.Rule.Slice.PartMut.{putMid, midOf, mid-len}
 use Rattle.definition.specs.Rows.{tab, unlessRefused}
 use Rattle.definition.specs.Refusals.{firstPass, indicesUpTo}
-use Rattle.laws.proofs.Passes.{pass-none, pass-more}
+use Rattle.laws.proofs.Passes.{pass-all}
 use Rattle.laws.proofs.Lists.{tab-cong}
 use Rattle.filter.specs.Runs.{runStatus, uvStatus, coefficients, lumaRun, pretrainedRun, chromaRun}
 use Rattle.units.specs.Open.{lumaOpen, pretrainedOpen, chromaOpen}
 use Rattle.units.proofs.Stretches.{run-back}
-
--- a test that each of the first n passes
-pass-all : (test : ℕ → Bool) (xs : List ℕ) (n : ℕ) → ((j : ℕ) → j < n → test (getD xs j 0) ≡ true) → firstPass test n xs ≡ true
-pass-all test xs zero h = pass-none test xs
-pass-all test xs (suc n) h = rw (← add-one n) (pass-more test xs n (pass-all test xs n (λ j l. h j (omega arith))) (h n (omega arith)))
 
 indices-in : (limit : ℕ) (indices : List ℕ) → ((j : ℕ) → j < 10 → getD indices j 0 ≤ limit) → indicesUpTo limit indices ≡ true
 indices-in limit indices h = pass-all (λ i. leb i limit) indices 10 (λ j l. le-leb (getD indices j 0) limit (h j l))

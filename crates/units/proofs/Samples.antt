@@ -10,13 +10,9 @@ use Rattle.definition.specs.Rows.{lumaFlat}
 use Rattle.definition.specs.Sample.{limit8, rounded, centre, pairOf, nsTap, pcTap, nsConfigY, pcConfig}
 use Rattle.definition.specs.Units.{user, pretrained, setOf}
 use Rattle.filter.specs.Runs.{coefficients}
+use Rattle.model.specs.Views.{sumZ-cong}
 use Rattle.units.specs.Open.{lumaOpen, pretrainedOpen, userOpen, classedOpen}
 use Rattle.units.proofs.Firsts.{ClassStretch}
-
-sumZ-cong : (n : ℕ) (f g : ℕ → ℤ) → ((k : ℕ) → k < n → f k ≡ g k) → sumZ n f ≡ sumZ n g
-unfolding sumZ
-sumZ-cong zero f g e = refl
-sumZ-cong (suc n) f g e = ap₂ (λ (x y : ℤ). x +ℤ y) (sumZ-cong n f g (λ k h. e k (omega arith))) (e n (omega arith))
 
 module _ (rows indices : List ℕ) (c d : ℕ → ℤ) (x : ℕ) where
   luma-alike : ((k : ℕ) → k < 16 → c k ≡ d k) → lumaOpen rows indices c x ≡ lumaOpen rows indices d x

@@ -48,12 +48,6 @@ wraps a =
       | no ge ↦ rw (eq-eqb (a % 5 + 1) 5 (omega arith)) (omega arith)
     ]
 
--- the newest row changes no length, and no index beyond a bound that the next slot keeps
-fetch-sizes : (len m : ℕ) (b : Bool) (row : List ℕ) (g : Ring) →
-    (length (fetch len m b row g .slots) ≡ length (g .slots)) × (length (fetch len m b row g .idx) ≡ length (g .idx))
-fetch-sizes len m true row g = (length-sets (g .slots) (g .next * len) row, length-set (g .idx) m (g .next))
-fetch-sizes len m false row g = (refl, length-set (g .idx) m (getD (g .idx) (m - 1) 0))
-
 fetch-low : (len m top : ℕ) (b : Bool) (row : List ℕ) (g : Ring) → g .next ≤ top → ((j : ℕ) → getD (g .idx) j 0 ≤ top) →
     (j : ℕ) → getD (fetch len m b row g .idx) j 0 ≤ top
 fetch-low len m top true row g h a = set-low (g .idx) m (g .next) top h a

@@ -123,10 +123,6 @@ fetch-next : (b : Bool) (row : List ℕ) (g : Ring) → fetch rowBytes 8 b row g
 fetch-next true row g = refl
 fetch-next false row g = refl
 
-fetch-sizes : (b : Bool) (row : List ℕ) (g : Ring) → (length (fetch rowBytes 8 b row g .slots) ≡ length (g .slots)) × (length (fetch rowBytes 8 b row g .idx) ≡ length (g .idx))
-fetch-sizes true row g = (length-sets (g .slots) (g .next * rowBytes) row, length-set (g .idx) 8 (g .next))
-fetch-sizes false row g = (refl, length-set (g .idx) 8 (getD (g .idx) 7 0))
-
 -- eight rows and columns from two before a block's first sample on, by the place that a tap of -2 .. 5 leads to
 eight-place : (e a : ℕ) → 2 ≤ e → (T (nonNeg (pos e +ℤ (pos a -ℤ pos 2)))) × (natAbs (pos e +ℤ (pos a -ℤ pos 2)) ≡ e + a - 2)
 eight-place e a h =
@@ -176,7 +172,7 @@ module _ (op : Operation) (four : border op ≡ 4) (G : Given) (l : Lent) (p₀ 
 
     pub sizes : (length (ten k p (x .0) .slots) ≡ length (x .0 .slots)) × (length (ten k p (x .0) .idx) ≡ length (x .0 .idx))
     sizes =
-        let z = fetch-sizes (own op G (k + 8)) (padRow op G l p (k + 8)) (x .0) in
+        let z = fetch-sizes rowBytes 8 (own op G (k + 8)) (padRow op G l p (k + 8)) (x .0) in
         cond-ring (λ (r : Ring). (length (r .slots) ≡ length (x .0 .slots)) × (length (r .idx) ≡ length (x .0 .idx))) (begins k) _ _
         (λ b. (length-sets (newest k p (x .0) .slots) (9 * rowBytes) (padRow op G l p (k + 9)) ∙ z .0, length-set (newest k p (x .0) .idx) 9 9 ∙ z .1))
         (λ b. z)
@@ -191,7 +187,7 @@ module _ (op : Operation) (four : border op ≡ 4) (G : Given) (l : Lent) (p₀ 
       tenth : window rowBytes (withTenth (padRow op G l p (k + 9)) (newest k p (x .0))) 9 ≡ padRow op G l p₀ (k + 9)
       tenth =
           let g : Ring = newest k p (x .0) in
-          let z = fetch-sizes (own op G (k + 8)) (padRow op G l p (k + 8)) (x .0) in
+          let z = fetch-sizes rowBytes 8 (own op G (k + 8)) (padRow op G l p (k + 8)) (x .0) in
           let s9 : 9 * rowBytes + rowBytes ≤ length (g .slots) = rw (z .0) (omega (arith, a .slots)) in
           let i9 : 9 < length (g .idx) = rw (z .1) (omega (arith, a .indices)) in
           ap (rowOf rowBytes (sets (g .slots) (9 * rowBytes) (padRow op G l p (k + 9)))) (getD-set-same (g .idx) 9 9 0 i9) ∙
