@@ -7,6 +7,7 @@ ghost use Prim.Native.Nat.{ℕ, _+_, _*_, _^_, _<_, _≤_, min};
 ghost use lib.IntN.{pos, natAbs, _+ℤ_, _-ℤ_, _*ℤ_};
 ghost use lib.ListN.{length, getD};
 ghost use lib.Seq.{sets};
+ghost use Rattle.definition.specs.Numbers.{clipTo};
 ghost use Rattle.definition.specs.Rows.{tab, flatAround, lumaFlat, chromaFlat};
 ghost use Rattle.definition.specs.Sample.{limit8, rounded, centre, lumaSample, pretrainedSample};
 ghost use Rattle.filter.specs.Runs.{runStatus, uvStatus, lumaRun, pretrainedRun, chromaRun, coefficients};
@@ -26,19 +27,26 @@ const LUMA_ROWS_AT: usize = 380;
 // A row of gathered luma: eight bytes before it, so that eight samples can begin before the run does.
 const COMPACT_BYTES: usize = 84;
 
-// (s + 64) >> 7, clipped to a byte: the rounding of all three filters.
-fn round_clip(s: i32) -> u8
-    requires { ⌜ natAbs s < 2 ^ 30 ⌝ }
-    ensures { λ r. ⌜ r ≡ rounded limit8 s ⌝ }
+// v clipped to 0 .. 255, as an i32: so the compiler narrows with saturation.
+fn clipped(v: i32) -> i32
+    ensures { λ r. ⌜ r ≡ pos (clipTo limit8 v) ⌝ }
 {
-    let v = (s + 64) >> 7;
     if v < 0 {
         return 0;
     }
     if v > 255 {
         return 255;
     }
-    v as u8
+    v
+}
+
+// (s + 64) >> 7, clipped to a byte: the rounding of all three filters.
+fn round_clip(s: i32) -> u8
+    requires { ⌜ natAbs s < 2 ^ 30 ⌝ }
+    ensures { λ r. ⌜ r ≡ rounded limit8 s ⌝ }
+{
+    let v = (s + 64) >> 7;
+    clipped(v) as u8
 }
 
 // Whether the n samples from byte col0 on lie in the destination, and with e columns on both sides in the rows: `size` bytes, to
