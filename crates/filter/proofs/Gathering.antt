@@ -33,19 +33,24 @@ column-place lcol0 first step n x (negsuc b) e l h =
     let back : step * suc b ≡ suc b * step = mul-comm step (suc b) in
     rw (before-pos (x + 2) b (omega arith), sub-pos (lcol0 + x * step) (step * suc b) (omega arith)) (omega arith, omega arith)
 
+-- the same column behind eight bytes
+eight-further : (x : ℕ) (dx : ℤ) → natAbs dx ≤ 2 → natAbs (pos (x + 8 + 2) +ℤ dx) ≡ 8 + natAbs (pos (x + 2) +ℤ dx)
+eight-further x (pos b) h = omega arith
+eight-further x (negsuc b) h = rw (before-pos (x + 8 + 2) b (omega arith), before-pos (x + 2) b (omega arith)) (omega arith)
+
 -- no row yet, and one more
 pub none-gathered : {rows indices : List ℕ} {first step n : ℕ} {compact : List ℕ} → Gathered rows indices first step n 0 compact
 none-gathered = record { is = λ k j hk hj. absurd (not-suc-le-zero hk) }
 
-pub one-gathered : {rows indices : List ℕ} {first step n m : ℕ} {compact : List ℕ} → Gathered rows indices first step n m compact → length compact ≡ 380 → m < 5 → n + 4 ≤ 76 →
-    Gathered rows indices first step n (m + 1) (sets compact (76 * m) (tab (n + 4) (every rows (380 + 140 * getD indices (5 + m) 0 + first) step)))
+pub one-gathered : {rows indices : List ℕ} {first step n m : ℕ} {compact : List ℕ} → Gathered rows indices first step n m compact → length compact ≡ 420 → m < 5 → n + 4 ≤ 76 →
+    Gathered rows indices first step n (m + 1) (sets compact (84 * m + 8) (tab (n + 4) (every rows (380 + 140 * getD indices (5 + m) 0 + first) step)))
 one-gathered {rows} {indices} {first} {step} {n} {m} {compact} h e l short =
     let f : ℕ → ℕ = every rows (380 + 140 * getD indices (5 + m) 0 + first) step in
     record {
       is = λ k j hk hj.
           elim (ℕ-discrete k m) [
-            | yes q ↦ rw q (sets-in (tab (n + 4) f) compact (76 * m) j (rw (length-tab (n + 4) f) hj) (omega arith) ∙ getD-tab (n + 4) f j hj)
-            | no ne ↦ sets-before (tab (n + 4) f) compact (76 * m) (76 * k + j) (omega arith) ∙ h .is k j (omega arith) hj
+            | yes q ↦ rw q (sets-in (tab (n + 4) f) compact (84 * m + 8) j (rw (length-tab (n + 4) f) hj) (omega arith) ∙ getD-tab (n + 4) f j hj)
+            | no ne ↦ sets-before (tab (n + 4) f) compact (84 * m + 8) (84 * k + 8 + j) (omega arith) ∙ h .is k j (omega arith) hj
           ];
     }
 
@@ -54,23 +59,24 @@ module _ (rows indices : List ℕ) (lcol0 first step n : ℕ) (compact : List �
   abbrev own : ℤ → ℤ → ℕ
   own = chromaLumaFlat rows indices (lcol0 + x * step)
 
-  byte-is : (dy dx : ℤ) → natAbs dy ≤ 2 → natAbs dx ≤ 2 → compactAt compact x dy dx ≡ own dy (pos step *ℤ dx)
+  byte-is : (dy dx : ℤ) → natAbs dy ≤ 2 → natAbs dx ≤ 2 → compactAt compact (x + 8) dy dx ≡ own dy (pos step *ℤ dx)
   byte-is dy dx u v =
       let r = row-place dy u in
       let c = column-place lcol0 first step n x dx e l v in
       let k : ℕ = natAbs (pos 2 +ℤ dy) in
       let j : ℕ = natAbs (pos (x + 2) +ℤ dx) in
       let place : 380 + 140 * getD indices (5 + k) 0 + first + j * step ≡ 380 + 140 * getD indices (5 + k) 0 + (first + j * step) = omega arith in
-      h .is k j (r .0) (c .0) ∙ ap (λ (m : ℕ). getD rows m 0) place ∙ (λ i. getD rows (380 + 140 * getD indices (r .1 i) 0 + c .1 i) 0)
+      let behind : 84 * k + natAbs (pos (x + 8 + 2) +ℤ dx) ≡ 84 * k + 8 + j = omega (arith, eight-further x dx v) in
+      ap (λ (m : ℕ). getD compact m 0) behind ∙ h .is k j (r .0) (c .0) ∙ ap (λ (m : ℕ). getD rows m 0) place ∙ (λ i. getD rows (380 + 140 * getD indices (r .1 i) 0 + c .1 i) 0)
 
-  centre-is : compactAt compact x (pos 0) (pos 0) ≡ centre own
+  centre-is : compactAt compact (x + 8) (pos 0) (pos 0) ≡ centre own
   centre-is = byte-is (pos 0) (pos 0) (omega arith) (omega arith) ∙ ap (λ (m : ℕ). own (pos 0) (pos m)) (mul-zero step)
 
-  tap-is : (c : ℕ → ℤ) (k : ℕ) → compactTap (compactAt compact x) c k ≡ lumaTap own step c k
+  tap-is : (c : ℕ → ℤ) (k : ℕ) → compactTap (compactAt compact (x + 8)) c k ≡ lumaTap own step c k
   tap-is c k =
       let t = near-at 2 nsConfigUvFromY tt tt k in
       let v = byte-is (dyOf nsConfigUvFromY k) (dxOf nsConfigUvFromY k) (t .0) (t .1) in
       (λ i. (pos (v i) -ℤ pos (centre-is i)) *ℤ c (6 + k))
 
-  pub gathered-sum : (s : ℤ → ℤ → ℕ) (c : ℕ → ℤ) → compactSum s (compactAt compact x) c ≡ chromaSum s own step c
+  pub gathered-sum : (s : ℤ → ℤ → ℕ) (c : ℕ → ℤ) → compactSum s (compactAt compact (x + 8)) c ≡ chromaSum s own step c
   gathered-sum s c = (λ i. pos (128 * centre s) +ℤ sumZ 6 (nsTap s c nsConfigUv) +ℤ sumZ 12 (λ k. tap-is c k i))

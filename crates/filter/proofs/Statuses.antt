@@ -106,7 +106,7 @@ uv-inside dst rows indices col0 lcol0 step n e =
     }
 
 -- the eight samples from `at` on, which is where sample x stands, or where the last eight of the rows begin
-pub eight-inside : {dst : ℕ} {rows indices : List ℕ} {col0 n : ℕ} → OwnInside 4 dst rows indices col0 n → (x at : ℕ) → x < n → at ≡ min (col0 + x) 64 → Eight rows indices at
-eight-inside h x at l e =
+pub eight-inside : {e dst : ℕ} {rows indices : List ℕ} {col0 n : ℕ} → OwnInside e dst rows indices col0 n → (x at last : ℕ) → last + 8 + e ≡ 76 → x < n → e ≤ last → at ≡ min (col0 + x) last → Eight e rows indices at
+eight-inside h x at last s l r e =
     let w = h .windows x l in
     record { window = λ j k. record { inside = w .inside; left = omega (arith, w .left); right = omega arith } }

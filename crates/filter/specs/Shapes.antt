@@ -20,13 +20,17 @@ pub record Gatherable (rows indices : List ℕ) (first step n : ℕ) : Type 0 wh
   pub columns : (j : ℕ) → j < n + 4 → first + j * step < lumaRowBytes
   pub short : n + 4 ≤ rowBytes
 
+-- a row of them, behind eight bytes
+abbrev pub compactBytes : ℕ
+compactBytes = 84
+
 -- the first m of the five rows so gathered
 pub record Gathered (rows indices : List ℕ) (first step n m : ℕ) (compact : List ℕ) : Type 0 where
-  pub is : (k j : ℕ) → k < m → j < n + 4 → getD compact (rowBytes * k + j) 0 ≡ every rows (lumaRowsAt + lumaRowBytes * getD indices (5 + k) 0 + first) step j
+  pub is : (k j : ℕ) → k < m → j < n + 4 → getD compact (compactBytes * k + 8 + j) 0 ≡ every rows (lumaRowsAt + lumaRowBytes * getD indices (5 + k) 0 + first) step j
 
--- the luma of sample x, dy rows and dx columns away: its own is the byte x + 2 of the third row
+-- the luma of sample x - 8, dy rows and dx columns away: its own is the byte x + 2 of the third row
 abbrev pub compactAt : List ℕ → ℕ → ℤ → ℤ → ℕ
-compactAt compact x dy dx = getD compact (rowBytes * natAbs (pos 2 +ℤ dy) + natAbs (pos (x + 2) +ℤ dx)) 0
+compactAt compact x dy dx = getD compact (compactBytes * natAbs (pos 2 +ℤ dy) + natAbs (pos (x + 2) +ℤ dx)) 0
 
 -- `lumaTap` and `chromaSum` of luma that is gathered
 abbrev pub compactTap : (ℤ → ℤ → ℕ) → (ℕ → ℤ) → ℕ → ℤ
@@ -37,4 +41,4 @@ compactSum s l c = pos (128 * centre s) +ℤ sumZ 6 (nsTap s c nsConfigUv) +ℤ 
 
 -- the taps of luma are added up by themselves
 abbrev pub FromLumaPartial : List ℕ → ℕ → List ℤ → ℕ → ℤ → Type 0
-FromLumaPartial compact x filter = Summed (x < 72) (pos 0) (compactTap (compactAt compact x) (coefficients filter)) 0 65280
+FromLumaPartial compact x filter = Summed (x < 80) (pos 0) (compactTap (compactAt compact x) (coefficients filter)) 0 65280

@@ -46,8 +46,8 @@ pub record Summed (asked : Type 0) (C : ℤ) (f : ℕ → ℤ) (B D k : ℕ) (s 
   pub sum : Partial C f B D k s
 
 -- eight windows side by side
-pub record Eight (rows indices : List ℕ) (at : ℕ) : Type 0 where
-  pub window : (j : ℕ) → j < 8 → Window 0 76 4 rows indices (at + j)
+pub record Eight (reach : ℕ) (rows indices : List ℕ) (at : ℕ) : Type 0 where
+  pub window : (j : ℕ) → j < 8 → Window 0 76 reach rows indices (at + j)
 
 -- a pretrained filter's tap, whose pair is less 255, and what the twelve of them take off
 abbrev pub lessTap : (ℤ → ℤ → ℕ) → (ℕ → ℤ) → ℕ → ℤ

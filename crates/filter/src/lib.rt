@@ -1,5 +1,5 @@
 // filter.rs: the three filter runs. Each writes the restored samples of one stretch into the part of the plane that it is lent.
-// Rows are one flat array of padded rows, reached by ten row indices. Luma and pretrained samples are worked out eight at a time in a local, which no store to the
+// Rows are one flat array of padded rows, reached by ten row indices. Samples are worked out eight at a time in a local, which no store to the
 // destination can be taken to change; the last eight end with the rows, so that none leaves them. Their filter is read anew for each eight: the compiler then
 // sees that its numbers are short.
 ghost use mathlib.Core.Path.{_≡_};
@@ -7,6 +7,7 @@ ghost use Prim.Native.Nat.{ℕ, _+_, _*_, _^_, _<_, _≤_, min};
 ghost use lib.IntN.{pos, natAbs, _+ℤ_, _-ℤ_, _*ℤ_};
 ghost use lib.ListN.{length, getD};
 ghost use lib.Seq.{sets};
+ghost use Rattle.definition.specs.Numbers.{clipTo};
 ghost use Rattle.definition.specs.Rows.{tab, flatAround, lumaFlat, chromaFlat};
 ghost use Rattle.definition.specs.Sample.{limit8, rounded, centre, lumaSample, pretrainedSample};
 ghost use Rattle.filter.specs.Runs.{runStatus, uvStatus, lumaRun, pretrainedRun, chromaRun, coefficients};
@@ -23,19 +24,29 @@ const LUMA_ROW_BYTES: usize = 140;
 
 const LUMA_ROWS_AT: usize = 380;
 
-// (s + 64) >> 7, clipped to a byte: the rounding of all three filters.
-fn round_clip(s: i32) -> u8
-    requires { ⌜ natAbs s < 2 ^ 30 ⌝ }
-    ensures { λ r. ⌜ r ≡ rounded limit8 s ⌝ }
+// A row of gathered luma: eight bytes before it, so that eight samples can begin before the run does.
+const COMPACT_BYTES: usize = 84;
+
+// v clipped to 0 .. 255, as an i32: so the compiler narrows with saturation.
+fn clipped(v: i32) -> i32
+    ensures { λ r. ⌜ r ≡ pos (clipTo limit8 v) ⌝ }
 {
-    let v = (s + 64) >> 7;
     if v < 0 {
         return 0;
     }
     if v > 255 {
         return 255;
     }
-    v as u8
+    v
+}
+
+// (s + 64) >> 7, clipped to a byte: the rounding of all three filters.
+fn round_clip(s: i32) -> u8
+    requires { ⌜ natAbs s < 2 ^ 30 ⌝ }
+    ensures { λ r. ⌜ r ≡ rounded limit8 s ⌝ }
+{
+    let v = (s + 64) >> 7;
+    clipped(v) as u8
 }
 
 // Whether the n samples from byte col0 on lie in the destination, and with e columns on both sides in the rows: `size` bytes, to
@@ -192,7 +203,7 @@ fn y_sum(rows: &[u8], indices: &[usize; 10], col: usize, filter: &[i8; 16]) -> i
 
 // Eight samples from byte `at` on, restored by a luma filter.
 fn y_eight(rows: &[u8], indices: &[usize; 10], at: usize, filter: &[i8; 16]) -> [u8; 8]
-    requires { ⌜ Eight (now rows) (now indices) at ⌝ }
+    requires { ⌜ Eight 4 (now rows) (now indices) at ⌝ }
     ensures { λ r. ⌜ ((j : ℕ) → j < 8 → getD r j 0 ≡ lumaSample limit8 (lumaFlat (now (rows .entry)) (now (indices .entry)) (at + j)) (coefficients (now (filter .entry)))) ⌝ }
 {
     let mut out = [0u8; 8];
@@ -338,7 +349,7 @@ fn pc_sum(rows: &[u8], indices: &[usize; 10], col: usize, filter: &[i16; 13], of
 
 // Eight samples from byte `at` on, restored by a pretrained set.
 fn pc_eight(rows: &[u8], indices: &[usize; 10], at: usize, filter: &[i16; 13], off: i32) -> [u8; 8]
-    requires { ⌜ Eight (now rows) (now indices) at ⌝ }
+    requires { ⌜ Eight 4 (now rows) (now indices) at ⌝ }
     requires { ⌜ TakenOff (now filter) off ⌝ }
     ensures { λ r. ⌜ ((j : ℕ) → j < 8 → getD r j 0 ≡ pretrainedSample limit8 (lumaFlat (now (rows .entry)) (now (indices .entry)) (at + j)) (coefficients (now (filter .entry)))) ⌝ }
 {
@@ -415,8 +426,8 @@ fn uv_own_sum(rows: &[u8], indices: &[usize; 10], col: usize, filter: &[i8; 18])
 }
 
 // One of the five rows of luma, at chroma's resolution: every `step`-th byte from `from` on, n of them, to byte `to` on.
-fn gather_row(compact: &mut [u8; 380], to: usize, rows: &[u8], from: usize, step: usize, n: usize)
-    requires { ⌜ to + n ≤ 380 ⌝ }
+fn gather_row(compact: &mut [u8; 420], to: usize, rows: &[u8], from: usize, step: usize, n: usize)
+    requires { ⌜ to + n ≤ 420 ⌝ }
     requires { ⌜ ((j : ℕ) → j < n → from + j * step < length (now rows)) ⌝ }
     ensures { λ _. ⌜ now (compact .exit) ≡ sets (now (compact .entry)) to (tab n (every (now (rows .entry)) from step)) ⌝ }
 {
@@ -429,32 +440,32 @@ fn gather_row(compact: &mut [u8; 380], to: usize, rows: &[u8], from: usize, step
 
 // The five rows of luma that n chroma samples read, from column `first` on. So the taps of luma have steps of one byte, which the
 // compiler can take side by side.
-fn gather(rows: &[u8], indices: &[usize; 10], first: usize, step: usize, n: usize) -> [u8; 380]
+fn gather(rows: &[u8], indices: &[usize; 10], first: usize, step: usize, n: usize) -> [u8; 420]
     requires { ⌜ Gatherable (now rows) (now indices) first step n ⌝ }
     ensures { λ r. ⌜ Gathered (now (rows .entry)) (now (indices .entry)) first step n 5 r ⌝ }
 {
-    let mut compact = [0u8; 380];
+    let mut compact = [0u8; 420];
     let mut k = 0;
     while k < 5 {
         let row = indices[5 + k];
         let from = LUMA_ROWS_AT + LUMA_ROW_BYTES * row + first;
-        gather_row(&mut compact, ROW_BYTES * k, rows, from, step, n + 4);
+        gather_row(&mut compact, COMPACT_BYTES * k + 8, rows, from, step, n + 4);
         k += 1;
     }
     compact
 }
 
-// The byte dy rows and dx columns from the luma of sample x.
-fn compact_at(compact: &[u8; 380], x: usize, dy: i8, dx: i8) -> u8
-    requires { ⌜ (x < 72) × (natAbs dy ≤ 2) × (natAbs dx ≤ 2) ⌝ }
+// The byte dy rows and dx columns from the luma of sample x - 8.
+fn compact_at(compact: &[u8; 420], x: usize, dy: i8, dx: i8) -> u8
+    requires { ⌜ (x < 80) × (natAbs dy ≤ 2) × (natAbs dx ≤ 2) ⌝ }
     ensures { λ r. ⌜ r ≡ compactAt (now (compact .entry)) x dy dx ⌝ }
 {
     let row = moved(2, dy);
-    compact[ROW_BYTES * row + moved(x + 2, dx)]
+    compact[COMPACT_BYTES * row + moved(x + 2, dx)]
 }
 
 // One tap more of its twelve of luma.
-fn uv_luma_step(s: i32, compact: &[u8; 380], x: usize, filter: &[i8; 18], k: usize) -> i32
+fn uv_luma_step(s: i32, compact: &[u8; 420], x: usize, filter: &[i8; 18], k: usize) -> i32
     requires { ⌜ k < 12 ⌝ }
     requires { ⌜ FromLumaPartial (now compact) x (now filter) k s ⌝ }
     ensures { λ r. ⌜ FromLumaPartial (now (compact .entry)) x (now (filter .entry)) (k + 1) r ⌝ }
@@ -466,8 +477,8 @@ fn uv_luma_step(s: i32, compact: &[u8; 380], x: usize, filter: &[i8; 18], k: usi
     luma_tap(s, v, m, filter[at])
 }
 
-fn uv_luma_sum(compact: &[u8; 380], x: usize, filter: &[i8; 18]) -> i32
-    requires { ⌜ x < 72 ⌝ }
+fn uv_luma_sum(compact: &[u8; 420], x: usize, filter: &[i8; 18]) -> i32
+    requires { ⌜ x < 80 ⌝ }
     ensures { λ r. ⌜ FromLumaPartial (now (compact .entry)) x (now (filter .entry)) 12 r ⌝ }
 {
     let s1 = uv_luma_step(0, compact, x, filter, 0);
@@ -488,15 +499,37 @@ fn uv_sum(
     rows: &[u8],
     indices: &[usize; 10],
     col: usize,
-    compact: &[u8; 380],
+    compact: &[u8; 420],
     x: usize,
     filter: &[i8; 18],
 ) -> i32
     requires { ⌜ Window 0 76 2 (now rows) (now indices) col ⌝ }
-    requires { ⌜ x < 72 ⌝ }
+    requires { ⌜ x < 80 ⌝ }
     ensures { λ r. ⌜ (r ≡ compactSum (chromaFlat (now (rows .entry)) (now (indices .entry)) col) (compactAt (now (compact .entry)) x) (coefficients (now (filter .entry)))) × (natAbs r < 2 ^ 30) ⌝ }
 {
     uv_own_sum(rows, indices, col, filter) + uv_luma_sum(compact, x, filter)
+}
+
+// Eight chroma samples from byte `at` on, whose luma is gathered from sample x - 8 on.
+fn uv_eight(
+    rows: &[u8],
+    indices: &[usize; 10],
+    at: usize,
+    compact: &[u8; 420],
+    x: usize,
+    filter: &[i8; 18],
+) -> [u8; 8]
+    requires { ⌜ Eight 2 (now rows) (now indices) at ⌝ }
+    requires { ⌜ x ≤ 72 ⌝ }
+    ensures { λ r. ⌜ ((j : ℕ) → j < 8 → getD r j 0 ≡ rounded limit8 (compactSum (chromaFlat (now (rows .entry)) (now (indices .entry)) (at + j)) (compactAt (now (compact .entry)) (x + j)) (coefficients (now (filter .entry))))) ⌝ }
+{
+    let mut out = [0u8; 8];
+    let mut j = 0;
+    while j < 8 {
+        out[j] = round_clip(uv_sum(rows, indices, at + j, compact, x + j, filter));
+        j += 1;
+    }
+    out
 }
 
 fn uv_status(
@@ -544,12 +577,16 @@ pub fn ns_wiener_uv_fir_run(
         return status;
     }
     let ix = *indices;
-    let f = *filter;
     let compact = gather(rows, &ix, lcol0 - 2 * step, step, n);
     let mut x = 0;
     while x < n {
-        dst[x] = round_clip(uv_sum(rows, &ix, col0 + x, &compact, x, &f));
-        x += 1;
+        let at = least(col0 + x, 66);
+        let skip = col0 + x - at;
+        let from = least(x + 8 - skip, 72);
+        let eight = uv_eight(rows, &ix, at, &compact, from, filter);
+        let m = least(8 - skip, n - x);
+        put(dst, x, eight, skip, m);
+        x += m;
     }
     0
 }

@@ -6,10 +6,13 @@ use native.Mathlib.Omega.{arith}
 use mathlib.Core.List.{List}
 use lib.IntN.{ℤ, pos, _+ℤ_}
 use lib.ListN.{getD}
+use lib.Seq.{sets}
+use Rattle.definition.specs.Rows.{tab}
 use Rattle.definition.specs.Padding.{rowAt, mixed, evenOnly, lastSampled}
 use Rattle.laws.proofs.Ints.{never}
 use Rattle.padding.proofs.Around.{same-byte}
 use Rattle.padding.specs.Padded.{lowerAt}
+use Rattle.padding.specs.Steps.{columns}
 
 pub lower-none : (v k s : ℕ) → 1 < k → 0 ≡ lowerAt v k s
 lower-none zero k s h = refl
@@ -123,3 +126,11 @@ module _ (row : List ℕ) (at stride v k : ℕ) where
       let r = at-row row 0 (at + 1) (at + 1) (omega arith) in
       let t = at-row row stride (at + 1) (at + 1 + stride) (omega arith) in
       (λ i. (p i + q i + r i + t i) / 4) ∙ mixed-four (rowAt row (pos 0)) (rowAt row (pos stride)) (pos at) v k n h m
+
+-- one row of luma gives each byte
+pub copied : (v k : ℕ) → lowerAt v k 1 ≡ 0 → (dst row : List ℕ) (at n stride : ℕ) →
+    sets dst at (tab n (λ i. getD row (0 + i) 0)) ≡ columns dst at n v k (λ j. mixed v k (rowAt row (pos 0)) (rowAt row (pos stride)) (pos j))
+copied zero k e dst row at n stride = refl
+copied (suc v) zero e dst row at n stride = absurd (omega arith)
+copied (suc v) (suc zero) e dst row at n stride = absurd (omega arith)
+copied (suc v) (suc (suc k)) e dst row at n stride = refl

@@ -215,7 +215,7 @@ fn luma_at(row: &[u8], at: usize, stride: usize, ss_ver: usize, kind: usize) -> 
 }
 
 // n columns of a luma row to dst at `at`, every second one where step is 2.
-fn luma_into(
+fn luma_mixed(
     dst: &mut [u8],
     at: usize,
     row: &[u8],
@@ -233,6 +233,27 @@ fn luma_into(
     while j < n {
         dst[at + j] = luma_at(row, j, stride, ss_ver, kind);
         j += step;
+    }
+}
+
+// The same: where one row of luma gives each byte, they are copied.
+fn luma_into(
+    dst: &mut [u8],
+    at: usize,
+    row: &[u8],
+    stride: usize,
+    n: usize,
+    ss_ver: usize,
+    kind: usize,
+)
+    requires { ⌜ (at + n ≤ length (now dst)) × (n + lowerAt «ss_ver» kind stride ≤ length (now row)) ⌝ }
+    requires { ⌜ (evenOnly «ss_ver» kind ≡ true → n % 2 ≡ 0) ⌝ }
+    ensures { λ _. ⌜ now (dst .exit) ≡ columns (now (dst .entry)) at n «ss_ver» kind (λ j. mixed «ss_ver» kind (rowAt (now (row .entry)) (pos 0)) (rowAt (now (row .entry)) (pos stride)) (pos j)) ⌝ }
+{
+    if lower_at(ss_ver, kind, 1) == 0 {
+        copy_into(dst, at, row, 0, n);
+    } else {
+        luma_mixed(dst, at, row, stride, n, ss_ver, kind);
     }
 }
 

@@ -10,7 +10,7 @@ use Rattle.filter.proofs.gather.Statement.{statement}
 use Rattle.filter.proofs.gather.Tie as tie
 
 abbrev Inv-loop : tie.InvT-loop
-Inv-loop rows indices first step n compact₀ k₀ compact k = (length compact ≡ 380) × (k ≤ 5) × Gathered rows indices first step n k compact
+Inv-loop rows indices first step n compact₀ k₀ compact k = (length compact ≡ 420) × (k ≤ 5) × Gathered rows indices first step n k compact
 
 abbrev μ-loop : tie.MeasureT-loop
 μ-loop rows indices first step n compact₀ k₀ compact k = 5 - k
@@ -46,7 +46,10 @@ mul-gather-row : tie.Need-mul-gather-row Inv-loop μ-loop
 mul-gather-row c = omega arith
 
 add-gather-row : tie.Need-add-gather-row Inv-loop μ-loop
-add-gather-row c = omega (arith, c .before .before .before .before .before .pre .short)
+add-gather-row c = omega arith
+
+add-gather-row-2 : tie.Need-add-gather-row-2 Inv-loop μ-loop
+add-gather-row-2 c = omega (arith, c .before .before .before .before .before .pre .short)
 
 gather-row-requires : tie.Need-gather-row-requires Inv-loop μ-loop
 gather-row-requires c κs =
@@ -88,6 +91,7 @@ gather-spec =
     add-from-2
     mul-gather-row
     add-gather-row
+    add-gather-row-2
     gather-row-requires
     add-k
     loop-less

@@ -56,7 +56,7 @@ sub-skip c = omega (arith, c .least .ensures)
 y-eight-requires : tie.Need-y-eight-requires Inv-loop μ-loop
 y-eight-requires c κs =
     let l = c .before .before .before .loop in
-    eight-inside (l .inv .inside) (l .x) (c .before .least .result) (c .before .before .loop-test .taken) (c .before .least .ensures)
+    eight-inside (l .inv .inside) (l .x) (c .before .least .result) 64 (omega arith) (c .before .before .loop-test .taken) (omega arith) (c .before .least .ensures)
 
 sub-least : tie.Need-sub-least Inv-loop μ-loop
 sub-least c = omega (arith, right (c .before .before .before), c .before .before .least .ensures)

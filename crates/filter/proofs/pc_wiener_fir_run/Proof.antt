@@ -63,7 +63,7 @@ sub-skip c = omega (arith, c .least .ensures)
 pc-eight-requires : tie.Need-pc-eight-requires Inv-loop μ-loop
 pc-eight-requires c κs =
     let l = c .before .before .before .loop in
-    (eight-inside (l .inv .inside .0) (l .x) (c .before .least .result) (c .before .before .loop-test .taken) (c .before .least .ensures), l .inv .inside .1)
+    (eight-inside (l .inv .inside .0) (l .x) (c .before .least .result) 64 (omega arith) (c .before .before .loop-test .taken) (omega arith) (c .before .least .ensures), l .inv .inside .1)
 
 sub-least : tie.Need-sub-least Inv-loop μ-loop
 sub-least c = omega (arith, right (c .before .before .before), c .before .before .least .ensures)

@@ -1,98 +1,43 @@
--- `padding::luma_into` meets its contract: whole steps are filled, and a column that is stepped over keeps its byte (`columns-more`). Assumes nothing.
-use Prim.Native.Nat.{_-_}
-use mathlib.Core.Path.{_≡_, refl}
-use native.Mathlib.Omega.{arith}
+-- `padding::luma_into` meets its contract: where no lower row is read, the upper one is copied (`copied`). Assumes nothing.
+use mathlib.Core.Path.{_≡_, sym, _∙_}
 use borrow.Author.Needs.{needs}
-use lib.IntN.{pos}
-use lib.ListN.{length, length-set}
-use Rattle.definition.specs.Padding.{evenOnly, mixed, rowAt}
-use Rattle.padding.specs.Steps.{columns}
-use Rattle.padding.proofs.Columns.{lower-even}
-use Rattle.padding.proofs.Filled.{step-size, Whole, whole-none, whole-more, columns-more}
+use Rattle.padding.proofs.Columns.{copied}
 use Rattle.padding.proofs.luma_into.Statement.{statement}
 use Rattle.padding.proofs.luma_into.Tie as tie
 
-abbrev Inv-loop : tie.InvT-loop
-Inv-loop dst₀ at row stride n ss-ver kind step j₀ dst j =
-    Whole (evenOnly ss-ver kind) j n ×
-    (length dst ≡ length dst₀) ×
-    (dst ≡ columns dst₀ at j ss-ver kind (λ i. mixed ss-ver kind (rowAt row (pos 0)) (rowAt row (pos stride)) (pos i)))
+lower-at-requires : tie.Need-lower-at-requires
+lower-at-requires c κs = search needs
 
-abbrev μ-loop : tie.MeasureT-loop
-μ-loop dst₀ at row stride n ss-ver kind step j₀ dst j = n - j
+copy-into-requires : tie.Need-copy-into-requires
+copy-into-requires c κs = search needs
 
-step-of-requires : tie.Need-step-of-requires Inv-loop μ-loop
-step-of-requires c κs = search needs
+luma-mixed-requires : tie.Need-luma-mixed-requires
+luma-mixed-requires c κs = search needs
 
-loop-holds : tie.Need-loop-holds Inv-loop μ-loop
-loop-holds c = let s = c .before .before .before in (whole-none _ _, refl, refl)
+same-length : tie.Need-same-length
+same-length c = search needs
 
-luma-at-requires : tie.Need-luma-at-requires Inv-loop μ-loop
-luma-at-requires c κs =
-    let s = c .before .before .before .before .before in
-    let a = s .args in (
-      omega arith,
-      λ e.
-          let l = lower-even (a .ss-ver) (a .kind) (a .stride) e in
-          let n = s .pre .1 e in
-          let j = c .before .loop .inv .0 .even e in
-          omega arith,
-    )
-
-add-dst : tie.Need-add-dst Inv-loop μ-loop
-add-dst c = omega arith
-
-slice-write-dst : tie.Need-slice-write-dst Inv-loop μ-loop
-slice-write-dst c = omega arith
-
-add-j : tie.Need-add-j Inv-loop μ-loop
-add-j c =
-    let s = c .before .before .before .before .before .before in
-    let a = s .args in
-    let l = c .before .before .loop in
-    let w = whole-more (a .ss-ver) (a .kind) (c .before .before .before .step-of .result) (l .j) (a .n) (c .before .before .before .step-of .ensures) (l .inv .0) (c .before .loop-test .taken) (s .pre .1) in
-    omega arith
-
-loop-less : tie.Need-loop-less Inv-loop μ-loop
-loop-less c =
-    let a = c .before .before .before .before .before .before .args in
-    let t = c .before .before .before .step-of in
-    omega (arith, step-size (a .ss-ver) (a .kind) (t .result) (t .ensures))
-
-loop-again : tie.Need-loop-again Inv-loop μ-loop
-loop-again c =
-    let s = c .before .before .before .before .before .before in
-    let a = s .args in
-    let l = c .before .before .loop in
-    let t = c .before .before .before .step-of in (
-      whole-more (a .ss-ver) (a .kind) (t .result) (l .j) (a .n) (t .ensures) (l .inv .0) (c .before .loop-test .taken) (s .pre .1),
-      simp length-set (l .inv .1),
-      rw (l .inv .2, c .luma-at .ensures)
-          (columns-more (a .ss-ver) (a .kind) (t .result) (l .j) (a .n) (t .ensures) (l .inv .0) (a .dst .now) (a .at)
-          (λ i. mixed (a .ss-ver) (a .kind) (rowAt (a .row .now) (pos 0)) (rowAt (a .row .now) (pos (a .stride))) (pos i))),
-    )
-
-same-length : tie.Need-same-length Inv-loop μ-loop
-same-length c = omega arith
-
-returns : tie.Need-returns Inv-loop μ-loop
+returns : tie.Need-returns
 returns c =
-    let e : c .before .loop .j ≡ c .before .before .before .before .before .args .n = omega arith in
-    rw e at (c .before .loop .inv .2)
+    let p = c .before .before in
+    let i = p .before .before in
+    let a = i .before .before .before .before .args in
+    p .copy-into .ensures ∙ copied (a .ss-ver) (a .kind) (sym (i .before .lower-at .ensures) ∙ i .if1 .taken) (a .dst .now) (a .row .now) (a .at) (a .n) (a .stride)
+
+same-length-2 : tie.Need-same-length-2
+same-length-2 c = search needs
+
+returns-2 : tie.Need-returns-2
+returns-2 c = search needs
 
 pub luma-into-spec : {M : Type 1} → statement M
 luma-into-spec =
     tie.close
     (tie.spec
-    Inv-loop
-    μ-loop
-    step-of-requires
-    loop-holds
-    luma-at-requires
-    add-dst
-    slice-write-dst
-    add-j
-    loop-less
-    loop-again
+    lower-at-requires
+    copy-into-requires
+    luma-mixed-requires
     same-length
-    returns)
+    returns
+    same-length-2
+    returns-2)
