@@ -36,6 +36,7 @@ use Rattle.units.specs.Operations.{units, statusOf, badState, tookOwn, t
 use Rattle.units.specs.Openings.{openState, openStatus, openOwn, openLuma}
 use Rattle.units.specs.Advances.{callOf}
 use Rattle.units.specs.Wholes.{frameOf, Histories}
+use Rattle.units.specs.Windows.{fetch-sizes}
 
 -- the slot of row R of five
 abbrev pub slot : ℕ → ℕ

@@ -42,6 +42,7 @@ use Rattle.units.specs.Openings.{openRings, openTen, openState, openStat
 use Rattle.units.specs.Operations.{numberOf, begins, withTenth, classAt, stepOf, classedState, userPlane, pretrainedPlane, painted, tookClassed, classesNow, took, Call, units, statusOf, badState}
 use Rattle.units.specs.Advances.{callOf}
 use Rattle.units.specs.LumaHistory.{slot, wraps}
+use Rattle.units.specs.Windows.{fetch-sizes}
 
 -- the tenth row disturbs no row of the window
 module _ (len top h : ℕ) (slot src : ℕ → ℕ) (own : ℕ → Bool) (pad : ℕ → List ℕ) (low : (a : ℕ) → slot a ≤ 8) (tops : 9 ≤ top) where
