@@ -15,18 +15,18 @@ use class_index::ClassIndex;
 use class_index::Qval;
 use units::State;
 
-mod advance_c;
-mod advance_n;
-mod advance_p;
-mod advance_y;
-mod open_c;
-mod open_n;
-mod open_p;
-mod open_y;
-mod whole_c;
-mod whole_n;
-mod whole_p;
-mod whole_y;
+pub mod advance_c;
+pub mod advance_n;
+pub mod advance_p;
+pub mod advance_y;
+pub mod open_c;
+pub mod open_n;
+pub mod open_p;
+pub mod open_y;
+pub mod whole_c;
+pub mod whole_n;
+pub mod whole_p;
+pub mod whole_y;
 
 #[no_mangle]
 pub extern "C" fn gihvendu_ns_wiener_fir_run(
