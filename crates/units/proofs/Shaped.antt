@@ -1,4 +1,4 @@
--- The shape of a unit's state, each test in its turn, and what a status of 0 says of a chroma unit. Assumes nothing.
+-- What a status says of a chroma unit's state and of what it is lent. Assumes nothing.
 use mathlib.Core.Path.{_≡_, refl}
 use mathlib.Core.Bool.{Bool, true, false, cond, not, _&&_, _||_, or-false}
 use mathlib.Core.List.{List}
@@ -20,23 +20,7 @@ use Rattle.units.specs.Operations.{statusOf, badState}
 use Rattle.units.specs.Advances.{callOf}
 use Rattle.units.specs.Chroma.{chromaLent, lumaCount, lumaTopCount}
 use Rattle.units.specs.ChromaRows.{chromaSizes, chromaStatus, BothLie, Admitted}
-
--- THE TESTS of any kind, each in its turn
-module _ (kind : Operation) (number op done h next : ℕ) (indices : List ℕ) where
-  abbrev Bad : Bool
-  Bad = badShape kind (not (eqb op number)) done h indices next
-
-  pub other-op : (op ≡ number → ⊥) → true ≡ Bad
-  other-op ne = rw (ne-eqb op number ne)
-
-  pub past-end : op ≡ number → h < done → true ≡ Bad
-  past-end e lt = rw (eq-eqb op number e, lt-ltb h done lt)
-
-  pub high-index : op ≡ number → done ≤ h → indicesUpTo (indexLimit kind) indices ≡ false → true ≡ Bad
-  high-index e le f = rw (eq-eqb op number e, le-ltb h done le, f)
-
-  pub next-last : op ≡ number → done ≤ h → indicesUpTo (indexLimit kind) indices ≡ true → ltb (nextLimit kind) next ≡ Bad
-  next-last e le t = rw (eq-eqb op number e, le-ltb h done le, t)
+use Rattle.units.proofs.Shapes.{not13}
 
 -- THE STATUS by lengths
 pub misshapen : (s : State) (z : Sizes) → badShape chroma (not (eqb (s .op) 4)) (s .done) (s .numbers .h) (s .indices) (s .next) ≡ true → 13 ≡ chromaStatus s z
@@ -56,10 +40,6 @@ unfolding statusOf chromaStatus badState
 status-lent left top bottom filter lumaPlane lumaTop lumaBottom skip count s p = rw (or-false (badShape chroma (not (eqb (s .op) 4)) (s .done) (s .numbers .h) (s .indices) (s .next)))
 
 -- WHAT A STATUS OF 0 SAYS
-not13 : (b : Bool) (n : ℕ) → cond b 13 n ≡ 0 → (b ≡ false) × (n ≡ 0)
-not13 true n e = absurd (omega arith)
-not13 false n e = (refl, e)
-
 one-some : (v n : ℕ) → v ≤ 1 → 4 ≤ n → 4 ≤ 2 ^ v * n
 one-some v n h k =
     elim (decLt v 1) [

@@ -1,4 +1,4 @@
--- The shape of a luma unit's state, and what a status of 0 says of a state and of what is lent. Assumes nothing.
+-- What a status says of a luma unit's state and of what it is lent. Assumes nothing.
 use mathlib.Core.Path.{_≡_, refl}
 use mathlib.Core.Bool.{Bool, true, false, cond, not, _||_}
 use mathlib.Core.List.{List}
@@ -16,23 +16,6 @@ use Rattle.units.specs.declared.State.{State}
 use Rattle.units.specs.States.{givenOf}
 use Rattle.units.specs.Windows.{RowsLie}
 use Rattle.units.specs.Luma.{statusBy, lumaSizes, Admitted}
-
--- THE TESTS, each in its turn
-module _ (op done h next : ℕ) (indices : List ℕ) where
-  abbrev Bad : Bool
-  Bad = badShape luma (not (eqb op 1)) done h indices next
-
-  pub other-op : (op ≡ 1 → ⊥) → true ≡ Bad
-  other-op ne = rw (ne-eqb op 1 ne)
-
-  pub past-end : op ≡ 1 → h < done → true ≡ Bad
-  past-end e lt = rw (eq-eqb op 1 e, lt-ltb h done lt)
-
-  pub high-index : op ≡ 1 → done ≤ h → indicesUpTo 9 indices ≡ false → true ≡ Bad
-  high-index e le f = rw (eq-eqb op 1 e, le-ltb h done le, f)
-
-  pub next-last : op ≡ 1 → done ≤ h → indicesUpTo 9 indices ≡ true → ltb 8 next ≡ Bad
-  next-last e le t = rw (eq-eqb op 1 e, le-ltb h done le, t)
 
 -- THE STATUS by lengths
 pub misshapen : (s : State) (z : Sizes) → badShape luma (not (eqb (s .op) 1)) (s .done) (s .numbers .h) (s .indices) (s .next) ≡ true → 13 ≡ statusBy s z

@@ -70,7 +70,7 @@ pub fn status(
 ) -> u8
     ensures { λ r. ⌜ r ≡ chromaStatus s (chromaSizes plane left top bottom filters «luma_plane» «luma_top» «luma_bottom» skip) ⌝ }
 {
-    if bad_shape(s) {
+    if crate::refusals::bad_shape(4, 4, 4, s) {
         return 13;
     }
     unit_status(
@@ -85,23 +85,6 @@ pub fn status(
         luma_bottom,
         skip,
     )
-}
-
-// Of another operation, rows done over h, a row index over 4 or a next row over 4.
-fn bad_shape(s: State) -> bool
-    ensures { λ r. ⌜ r ≡ badShape chroma (not (eqb (s .op) 4)) (s .done) (s .numbers .h) (s .indices) (s .next) ⌝ }
-{
-    let indices = s.indices;
-    if s.op != 4 {
-        return true;
-    }
-    if s.numbers.h < s.done {
-        return true;
-    }
-    if !bounds::indices_up_to(&indices, 4) {
-        return true;
-    }
-    4 < s.next
 }
 
 // The filter's 18 numbers, by value.

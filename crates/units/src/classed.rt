@@ -179,23 +179,6 @@ pub fn unit_status(
     crate::refusals::unit_status(op, g, z)
 }
 
-// Of another operation, rows done over h, a row index over 9 or a next row over 8.
-fn bad_shape(op: usize, s: State) -> bool
-    ensures { λ r. ⌜ r ≡ badShape luma (not (eqb (s .op) op)) (s .done) (s .numbers .h) (s .indices) (s .next) ⌝ }
-{
-    let indices = s.indices;
-    if s.op != op {
-        return true;
-    }
-    if s.numbers.h < s.done {
-        return true;
-    }
-    if !bounds::indices_up_to(&indices, 9) {
-        return true;
-    }
-    8 < s.next
-}
-
 // The table for an advance: the state's shape and the kept classes come first.
 pub fn status(
     op: usize,
@@ -213,7 +196,7 @@ pub fn status(
     requires { ⌜ (2 ≤ op) × (op ≤ 3) ⌝ }
     ensures { λ r. ⌜ r ≡ statusBy (operationOf op) s (classedSizes (operationOf op) plane left top bottom filters (now (map .entry)) (now (subclass .entry)) noskip skip) ⌝ }
 {
-    if bad_shape(op, s) {
+    if crate::refusals::bad_shape(op, 9, 8, s) {
         return 13;
     }
     let classes = s.classes;

@@ -66,27 +66,10 @@ pub fn status(
 ) -> u8
     ensures { λ r. ⌜ r ≡ statusBy s (lumaSizes plane left top bottom filters skip) ⌝ }
 {
-    if bad_shape(s) {
+    if crate::refusals::bad_shape(1, 9, 8, s) {
         return 13;
     }
     unit_status(s.numbers, plane, left, top, bottom, filters, skip)
-}
-
-// Of another operation, rows done over h, a row index over 9 or a next row over 8.
-fn bad_shape(s: State) -> bool
-    ensures { λ r. ⌜ r ≡ badShape luma (not (eqb (s .op) 1)) (s .done) (s .numbers .h) (s .indices) (s .next) ⌝ }
-{
-    let indices = s.indices;
-    if s.op != 1 {
-        return true;
-    }
-    if s.numbers.h < s.done {
-        return true;
-    }
-    if !bounds::indices_up_to(&indices, 9) {
-        return true;
-    }
-    8 < s.next
 }
 
 // The pieces of n rows from row k on.

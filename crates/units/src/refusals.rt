@@ -6,10 +6,11 @@ ghost use Prim.Native.Nat.{_-_, _/_, _%_, _^_, _≤_, _<_, max};
 ghost use lib.Dec.{ltb, eqb};
 ghost use lib.ListN.{length};
 ghost use Rattle.definition.specs.Units.{chroma, border, setSize};
-ghost use Rattle.definition.specs.Refusals.{unitStatus, lowest, every, sized, outside, topRows, bottomRows, badStride, badPair, badPlane, badLeft, badTop, badBottom, badMasks, badFilters, lumaAbove, lumaDown, lumaTopRows, lumaOutside, badLuma};
+ghost use Rattle.definition.specs.Refusals.{unitStatus, lowest, every, indicesUpTo, sized, outside, topRows, bottomRows, badStride, badPair, badPlane, badLeft, badTop, badBottom, badMasks, badFilters, lumaAbove, lumaDown, lumaTopRows, lumaOutside, badLuma};
 ghost use Rattle.units.specs.States.{operationOf, givenOf, sizesGiven, badMapLists};
 ghost use Rattle.units.specs.Table.{chromatic, classed, firstChecks, laterChecks, highest, LumaWithin, Within};
 use crate::Numbers;
+use crate::State;
 use bounds::room;
 
 // The lengths of all that is lent, and whether a class map is wrong.
@@ -25,6 +26,23 @@ pub struct Sizes {
     pub noskip: usize,
     pub filters: usize,
     pub bad_map: bool,
+}
+
+// Whether a state has another shape: it is of another operation, its rows done are over h, a row index is over its limit or the next row over its own.
+pub fn bad_shape(op: usize, index_limit: usize, next_limit: usize, s: State) -> bool
+    ensures { λ r. ⌜ r ≡ (not (eqb (s .op) op) || ltb (s .numbers .h) (s .done) || not (indicesUpTo «index_limit» (s .indices)) || ltb «next_limit» (s .next)) ⌝ }
+{
+    let indices = s.indices;
+    if s.op != op {
+        return true;
+    }
+    if s.numbers.h < s.done {
+        return true;
+    }
+    if !bounds::indices_up_to(&indices, index_limit) {
+        return true;
+    }
+    next_limit < s.next
 }
 
 fn either(a: bool, b: bool) -> bool

@@ -1,9 +1,9 @@
--- `classed::bad_shape` meets its contract: the four tests in turn. Assumes nothing.
+-- `refusals::bad_shape` meets its contract: the four tests in turn. Assumes nothing.
 use mathlib.Core.Path.{sym, _∙_}
 use borrow.Author.Tests.{not-true, not-false, eq-eqb, ne-eqb, lt-ltb, le-ltb}
 use borrow.Author.Needs.{needs}
-use Rattle.units.proofs.classed.bad_shape.Statement.{statement}
-use Rattle.units.proofs.classed.bad_shape.Tie as tie
+use Rattle.units.proofs.refusals.bad_shape.Statement.{statement}
+use Rattle.units.proofs.refusals.bad_shape.Tie as tie
 
 returns : tie.Need-returns
 returns c = let a = c .before .before .before .args in rw (ne-eqb (a .s .op) (a .op) (c .if1 .taken))
