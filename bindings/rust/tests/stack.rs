@@ -1,0 +1,75 @@
+//! Every operation on a 64 by 64 unit, on a thread whose whole stack is 64 KiB.
+
+use gihvendu::{
+    Borders, Classes, Luma, LumaUnit, State, Unit, get_class_lut_idx_8bpc, ns_wiener_multi_8bpc,
+    ns_wiener_single_uv_8bpc, ns_wiener_single_y_8bpc, pc_wiener_8bpc,
+};
+
+const UNIT: Unit = Unit {
+    w: 64,
+    h: 64,
+    edges: 0,
+    stride: 64,
+    off: 0,
+    top_off: 0,
+    bottom_off: 0,
+};
+const PIECES: usize = 64 * 16;
+
+#[test]
+fn in_64_kib() {
+    let run = || {
+        let (mut plane, luma) = (vec![7; 64 * 64], vec![9; 128 * 128]);
+        let (skip, noskip, map, subclass) = ([0; 64], [0; 16], vec![0; 4096], [0]);
+        let borders = Borders::default();
+        let user = Classes {
+            filters: &[1i8; 18][..],
+            map: &map,
+            subclass: &subclass,
+            noskip: &noskip,
+            base_q: 100,
+        };
+        let pretrained = Classes {
+            filters: &[1i16; 13][..],
+            map: &map,
+            subclass: &subclass,
+            noskip: &noskip,
+            base_q: 100,
+        };
+        let luma_unit = LumaUnit {
+            stride: 128,
+            off: 0,
+            top_off: 0,
+            bottom_off: 0,
+            ss_hor: 1,
+            ss_ver: 1,
+            kind: 0,
+        };
+        let luma = Luma {
+            plane: &luma,
+            ..Luma::default()
+        };
+        let all = [
+            ns_wiener_single_y_8bpc(&mut plane, &UNIT, &borders, &[1; 16], &skip),
+            ns_wiener_multi_8bpc(&mut plane, &UNIT, &borders, &user, &skip),
+            pc_wiener_8bpc(&mut plane, &UNIT, &borders, &pretrained, &skip),
+            ns_wiener_single_uv_8bpc(
+                &mut plane,
+                &UNIT,
+                &borders,
+                &[1; 18],
+                &luma_unit,
+                &luma,
+                &skip,
+            ),
+        ];
+        assert_eq!(all, [Ok(PIECES); 4]);
+        let mut state = State::open_p(&plane, &UNIT, &borders, &pretrained, &skip).unwrap();
+        let pieces = state.advance_p(64, &mut plane, &borders, &pretrained, &skip);
+        assert_eq!((pieces, state.finished()), (Ok(PIECES), true));
+        let index = get_class_lut_idx_8bpc(&[0; 760], &[0; 10], &noskip, 0, 3, 2, 16);
+        assert!(index.is_ok());
+    };
+    let thread = std::thread::Builder::new().stack_size(64 * 1024).spawn(run);
+    thread.expect("a thread").join().expect("it ends");
+}
