@@ -338,7 +338,7 @@ fn read_rows(s: &[u8], at: usize, w: usize, h: usize, p: &mut [u8]) -> Line
         let from = y * w;
         let to = from + w;
         let Line::Next(q) = read_row(s, next, &mut p[from..to]) else {
-            return Line::Wrong;
+            return Line::Wrong; // a row is missing, or not of its form
         };
         next = q;
         y += 1;
