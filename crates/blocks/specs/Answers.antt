@@ -1,7 +1,7 @@
 -- What the questions about a row of blocks answer. A mask has 16 bits: a row of more blocks, or a block past the row's end, is outside.
 use mathlib.Core.Bool.{cond, _&&_}
 use mathlib.Core.List.{List}
-use Prim.Native.Nat.{ℕ, zero, suc}
+use Prim.Native.Nat.{ℕ}
 use lib.Dec.{leb, ltb}
 use Rattle.definition.specs.Rows.{outsideUnless}
 use Rattle.definition.specs.Blocks.{classEnd}

@@ -1,9 +1,7 @@
 // Masks, pieces and stretches of a row of blocks: bit k of a mask is block k, and 1 leaves the block.
 ghost use mathlib.Core.Path.{_≡_};
-ghost use mathlib.Core.Bool.{Bool};
-ghost use Prim.Native.Nat.{ℕ, _+_, _-_, _≤_, _<_};
-ghost use lib.ListN.{getD};
-ghost use Rattle.definition.specs.Blocks.{masked, clearBelow, stretchEnd, stretchStart, classEnd};
+ghost use Prim.Native.Nat.{_+_, _-_, _≤_, _<_};
+ghost use Rattle.definition.specs.Blocks.{masked, clearBelow, stretchEnd, stretchStart};
 ghost use Rattle.blocks.specs.Answers.{rowStatus, blockStatus, endOf};
 ghost use Rattle.definition.specs.Rows.{orZero};
 

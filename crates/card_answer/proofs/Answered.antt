@@ -1,28 +1,27 @@
 -- What a card's struct says of its meaning, and the text that was put as its answer. Assumes nothing.
-use mathlib.Core.Path.{_≡_, refl, sym, ap, _∙_, subst}
+use mathlib.Core.Path.{_≡_, refl, sym, ap, _∙_}
 use mathlib.Core.Logic.{_≢_}
 use mathlib.Core.Bool.{Bool, true, false, cond}
-use mathlib.Core.List.{List, [], _∷_, _++_}
-use Prim.Native.Nat.{ℕ, zero, suc, _+_, _-_, _*_, _/_, _%_, _≤_, _<_}
-use native.Mathlib.Nat.{zero-add, mul-le-mul}
+use mathlib.Core.List.{List, _++_}
+use Prim.Native.Nat.{ℕ, zero, suc, _+_, _-_, _*_, _/_, _%_, _≤_}
+use native.Mathlib.Nat.{zero-add}
 use native.Mathlib.Omega.{arith}
 use borrow.Author.Tests.{ltb-true, ltb-false}
 use lib.Dec.{eqb, ltb}
 use lib.ListN.{length, getD, take, drop, replicate, length-append, List·getD-append, List·getD-eq-default}
 use lib.Seq.{sets-eq, getD-append-add}
-use Rattle.definition.specs.Rows.{tab}
 use Rattle.definition.specs.Blocks.{side, piecesOf}
 use Rattle.definition.specs.Refusals.{sized, widthLimit, heightLimit}
-use Rattle.definition.specs.Card.{CardUnit, Meaning, whole, refused, meaning, joined, spread, restoredPlane, filtered, headText, rowsText, statusName, filteredName, lineText, printed, cardAnswer}
+use Rattle.definition.specs.Card.{Meaning, whole, refused, meaning, joined, spread, restoredPlane, filtered, headText, rowsText, statusName, filteredName, lineText, printed, cardAnswer}
 use Rattle.laws.proofs.Lists.{tab-cong}
-use Rattle.laws.proofs.Cards.{sized-le}
+use Rattle.card_reader.proofs.Cards.{sized-le}
 use Rattle.card_reader.specs.Answers.{cardOf, filled}
 use Rattle.card_reader.specs.declared.Card.{Card}
 use Rattle.card_reader.proofs.Places.{front}
 use Rattle.card_reader.proofs.Meanings.{drop-zeros}
 use Rattle.card_answer.specs.Answers.{Answers, planeOf, unitText}
 use Rattle.card_answer.specs.Put.{Put}
-use Rattle.card_answer.proofs.Fine.{Good, Fine, meaning-fine}
+use Rattle.card_answer.proofs.Fine.{Fine, meaning-fine}
 use Rattle.card_answer.proofs.Texts.{line-short, head-short, rows-short}
 
 abbrev blank : ℕ → List ℕ

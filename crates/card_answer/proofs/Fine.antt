@@ -1,17 +1,16 @@
 -- A card that means a unit has one of the right sizes; any other has a status that is not 0. Assumes nothing.
-use mathlib.Core.Path.{_≡_, refl, sym, ap, _∙_}
+use mathlib.Core.Path.{_≡_, refl, sym, _∙_}
 use mathlib.Core.Bool.{Bool, true, false, cond, not}
-use mathlib.Core.List.{List, [], _∷_, _++_, append-nil, append-assoc}
-use Prim.Native.Nat.{ℕ, zero, suc, _+_, _-_, _*_, _/_, _≤_, _<_}
+use mathlib.Core.List.{List, [], _∷_, _++_}
+use Prim.Native.Nat.{ℕ, zero, suc, _+_, _-_, _*_, _/_, _<_}
 use native.Mathlib.Nat.{zero-mul, suc-mul, mul-comm}
 use native.Mathlib.Omega.{arith}
 use borrow.Author.Tests.{not-false}
 use lib.Dec.{eqb}
-use lib.IntN.{ℤ}
 use lib.ListN.{length, length-append}
 use Rattle.definition.specs.Blocks.{side}
 use Rattle.definition.specs.Refusals.{sized, widthLimit, heightLimit}
-use Rattle.definition.specs.Card.{Reading, value, wrong, Word, reading, several, inputAt, wordAt, ended, endOf, newline, pairAt, tapAt, filterAt, skipAt, rowAt, rowsAt, sizeAt, opLine, wName, hName, edgesLine, filterName, skipName, rowName, joined, CardUnit, Meaning, whole, refused, after, meaningOfLists, meaning}
+use Rattle.definition.specs.Card.{Reading, value, wrong, reading, several, inputAt, wordAt, newline, pairAt, filterAt, skipAt, rowAt, rowsAt, sizeAt, opLine, wName, hName, edgesLine, filterName, rowName, joined, CardUnit, Meaning, whole, refused, after, meaningOfLists, meaning}
 
 -- of a value that was read
 abbrev Holds : {A : Type 0} → (A → Type 0) → Reading A → Type 0

@@ -1,15 +1,14 @@
 -- A card's unit is never declined, and what the whole-unit operation leaves is the plane that the definition gives. Assumes nothing.
 use mathlib.Core.Path.{_≡_, refl, sym, ap, _∙_}
-use mathlib.Core.Bool.{Bool, true, false, cond, not, _&&_}
-use mathlib.Core.List.{List, [], _∷_, _++_}
+use mathlib.Core.Bool.{true, false, _&&_}
+use mathlib.Core.List.{List, []}
 use Prim.Native.Nat.{ℕ, zero, suc, _+_, _-_, _*_, _/_, _%_, _≤_, _<_}
-use native.Mathlib.Nat.{add-zero, zero-add, mod-lt, div-add-mod', div-lt-iff-lt-mul, mul-comm, sub-add-cancel, suc-mul, mul-le-mul}
-use native.Mathlib.Numerals.{add-one}
+use native.Mathlib.Nat.{add-zero, mod-lt, div-add-mod', div-lt-iff-lt-mul, mul-comm, suc-mul}
 use native.Mathlib.Omega.{arith}
-use borrow.Author.Tests.{le-ltb, lt-ltb, le-leb, leb-true, eqb-true, eq-eqb}
-use lib.Dec.{ltb, leb, eqb}
+use borrow.Author.Tests.{le-ltb, leb-true}
+use lib.Dec.{leb, eqb}
 use lib.IntN.{ℤ}
-use lib.ListN.{length, getD, take, drop}
+use lib.ListN.{length, getD}
 use lib.Seq.{ext-getD}
 use Rattle.definition.specs.Rows.{tab}
 use Rattle.definition.specs.Blocks.{side, piecesOf}
@@ -18,10 +17,10 @@ use Rattle.definition.specs.Refusals.{sized, widthLimit, heightLimit, outside, 
 use Rattle.laws.proofs.Passes.{both}
 use Rattle.laws.proofs.Lists.{length-tab, getD-tab}
 use Rattle.laws.proofs.Checks.{cleared}
-use Rattle.laws.proofs.Cards.{sized-le}
-use Rattle.units.specs.States.{givenOf}
+use Rattle.card_reader.proofs.Cards.{sized-le}
+use Rattle.refusals.specs.Given.{givenOf}
 use Rattle.units.specs.Luma.{lumaLent, numbersY}
-use Rattle.units.specs.Openings.{openStatus, Final, Whole}
+use Rattle.units.specs.Openings.{openStatus, Whole}
 use Rattle.units.specs.declared.Restored.{Restored}
 use Rattle.card_answer.specs.Answers.{planeOf}
 

@@ -8,7 +8,7 @@ use Rattle.definition.specs.Rows.{tab}
 use Rattle.definition.specs.Blocks.{side, piecesOf}
 use Rattle.definition.specs.Units.{luma, finalSample}
 use Rattle.definition.specs.Card.{headText, rowsText, cardAnswer}
-use Rattle.units.specs.States.{givenOf}
+use Rattle.refusals.specs.Given.{givenOf}
 use Rattle.units.specs.Luma.{lumaLent, numbersY}
 use Rattle.card_answer.specs.declared.Answer.{Answer}
 

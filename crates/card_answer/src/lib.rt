@@ -7,7 +7,6 @@ ghost use lib.Dec.{eqb};
 ghost use lib.ListN.{length, getD, take, drop};
 ghost use Rattle.definition.specs.Blocks.{side, piecesOf};
 ghost use Rattle.definition.specs.Refusals.{sized, widthLimit, heightLimit};
-ghost use Rattle.definition.specs.Card.{cardAnswer};
 ghost use Rattle.definition.specs.Card.{spread as Card·spread};
 ghost use Rattle.card_answer.specs.Answers.{Answers, planeOf, unitText};
 ghost use Rattle.card_answer.specs.Put.{Put};

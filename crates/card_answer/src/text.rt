@@ -2,7 +2,7 @@
 ghost use mathlib.Core.Path.{_≡_};
 ghost use mathlib.Core.List.{[], _∷_};
 ghost use Prim.Native.Nat.{_+_, _*_, _≤_, _<_};
-ghost use lib.ListN.{length, take, drop};
+ghost use lib.ListN.{length};
 ghost use Rattle.definition.specs.Card.{higher, decimalText, hexText, rowText, rowsText, lineText, headText};
 ghost use Rattle.definition.specs.Card.{glyph as Card·glyph};
 ghost use Rattle.card_answer.specs.Put.{Put};

@@ -1,3 +1,4 @@
+pub mod Cards
 pub mod Places
 pub mod Planes
 pub mod Meanings

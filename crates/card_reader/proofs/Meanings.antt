@@ -1,17 +1,17 @@
 -- What a card means, by what each of its lines was found to be: the steps of `meaning` and `meaningOfLists`, in their order. Assumes nothing.
 use mathlib.Core.Path.{_≡_, refl, sym, ap, _∙_}
-use mathlib.Core.Bool.{Bool, true, false, cond, not}
-use mathlib.Core.List.{List, [], _∷_, _++_}
+use mathlib.Core.Bool.{true, false}
+use mathlib.Core.List.{List, _++_}
 use Prim.Native.Nat.{ℕ, zero, suc, _+_, _-_, _/_, _≤_}
 use native.Mathlib.Nat.{sub-zero, zero-sub, suc-sub-suc}
 use native.Mathlib.Omega.{arith}
 use borrow.Author.Tests.{eq-eqb, ne-eqb}
 use lib.ListN.{length, take, drop, replicate, take-append-drop}
-use lib.Seq.{length-take-le, drop-nil}
+use lib.Seq.{length-take-le}
 use lib.IntN.{ℤ}
 use Rattle.definition.specs.Blocks.{side}
 use Rattle.definition.specs.Refusals.{widthLimit, heightLimit, sized}
-use Rattle.definition.specs.Card.{Reading, value, wrong, word, wordAt, sizeAt, filterAt, skipAt, rowsAt, opLine, wName, hName, edgesLine, joined, Meaning, whole, refused, meaningOfLists, meaning}
+use Rattle.definition.specs.Card.{Reading, value, wrong, word, wordAt, sizeAt, filterAt, skipAt, rowsAt, opLine, wName, hName, edgesLine, joined, whole, refused, meaningOfLists, meaning}
 use Rattle.card_reader.specs.declared.Line.{Line}
 use Rattle.card_reader.specs.declared.Line.the-variants.{Next, Wrong}
 use Rattle.card_reader.specs.Answers.{joins, filled}

@@ -20,7 +20,7 @@ use Rattle.card_reader.specs.declared.Tap.the-variants.{Value as TapValu
 use Rattle.card_reader.specs.declared.Line.{Line}
 use Rattle.card_reader.specs.declared.Line.the-variants.{Next, Wrong as LineWrong}
 use mir.Syntax.{w8, w16}
-use mir.Val.{Fits, SFits, toZ, ofZ}
+use mir.Val.{SFits, toZ, ofZ}
 use mir.Facts.{toZ-ofZ, toZ-pos}
 use Rattle.laws.proofs.Ints.{sub-neg}
 

@@ -1,16 +1,15 @@
 -- Rows that are read one behind the other stand one behind the other in a plane. Assumes nothing.
-use mathlib.Core.Path.{_≡_, refl, sym, ap, _∙_, subst}
+use mathlib.Core.Path.{_≡_, refl, sym, ap, _∙_}
 use mathlib.Core.List.{List, [], _∷_, _++_, append-assoc, append-nil}
-use Prim.Native.Nat.{ℕ, zero, suc, _+_, _*_, _-_, _≤_, _<_}
-use native.Mathlib.Nat.{zero-mul, add-mul, one-mul, mul-le-mul-right, mul-le-mul}
+use Prim.Native.Nat.{ℕ, _+_, _*_, _-_, _≤_, _<_}
+use native.Mathlib.Nat.{zero-mul, add-mul, one-mul}
 use native.Mathlib.Omega.{arith}
-use lib.ListN.{length, take, drop, length-append, length-drop}
-use lib.Seq.{drop-drop, length-take-le}
+use lib.ListN.{length, drop, length-append, length-drop}
+use lib.Seq.{drop-drop}
 use borrow.Rule.Slice.PartMut.{putMid}
-use Rattle.definition.specs.Card.{Reading, value, wrong, several, rowAt, rowsAt, joined}
-use Rattle.laws.proofs.Cards.{several-none, several-wrong, several-more, several-ends, Local, longer, row-local, itself}
+use Rattle.definition.specs.Card.{value, wrong, several, rowAt, rowsAt, joined}
+use Rattle.card_reader.proofs.Cards.{several-none, several-wrong, several-more, several-ends, longer, row-local, itself}
 use Rattle.card_reader.specs.Answers.{joins}
-use Rattle.card_reader.specs.declared.Line.{Line}
 use Rattle.card_reader.specs.declared.Line.the-variants.{Next, Wrong as LineWrong}
 use Rattle.card_reader.proofs.Places.{front, behind}
 

@@ -1,10 +1,10 @@
 -- What the reader's answers mean: document 01's values for each case of an enum, and its numbers for a card's.
 use mathlib.Core.Path.{_≡_}
-use mathlib.Core.List.{List, [], _∷_, _++_}
-use Prim.Native.Nat.{ℕ, _+_, _-_, _*_, _<_}
+use mathlib.Core.List.{List, _++_}
+use Prim.Native.Nat.{ℕ, _+_, _-_, _<_}
 use lib.IntN.{ℤ, pos}
 use lib.ListN.{length, replicate, drop}
-use Rattle.definition.specs.Card.{Reading, value, wrong, Word, word, CardUnit, Meaning, whole, refused, joined}
+use Rattle.definition.specs.Card.{Reading, value, wrong, Meaning, whole, refused, joined}
 use Rattle.card_reader.specs.declared.Number.{Number}
 use Rattle.card_reader.specs.declared.Number.the-variants.{Value, Wrong}
 use Rattle.card_reader.specs.declared.Tap.{Tap}

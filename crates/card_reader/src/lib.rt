@@ -3,7 +3,6 @@
 ghost use mathlib.Core.Path.{_≡_};
 ghost use Prim.Native.Nat.{_+_, _*_, _≤_, _<_};
 ghost use lib.ListN.{length, take, drop};
-ghost use lib.IntN.{ℤ};
 ghost use Rattle.definition.specs.Card.{inputAt, digitOf, hexOf, decimalAt, decimalOf, tapAt, pairAt, groupAt, wordAt, sizeAt, filterAt, skipAt, rowAt, rowsAt, several, endOf, meaning, meaningOfLists};
 ghost use Rattle.definition.specs.Card.{negated as Card·negated, unsigned as Card·unsigned, word as Card·word};
 ghost use Rattle.definition.specs.Refusals.{widthLimit};

@@ -1,9 +1,9 @@
 -- A bend by the places of its three samples, in any direction; and a feature by the sums down its columns. Assumes nothing.
 use mathlib.Core.Path.{_≡_, refl, sym, ap, _∙_}
 use mathlib.Core.List.{List}
-use Prim.Native.Nat.{ℕ, zero, suc, _+_, _-_, _*_, _≤_, _<_}
+use Prim.Native.Nat.{ℕ, zero, suc, _+_, _-_, _*_, _<_}
 use native.Mathlib.Omega.{arith}
-use lib.IntN.{ℤ, pos, negsuc, natAbs, _+ℤ_, _-ℤ_, negℤ, +ℤ-assoc}
+use lib.IntN.{ℤ, pos, natAbs, _+ℤ_, _-ℤ_, negℤ, +ℤ-assoc}
 use lib.ListN.{getD}
 use Rattle.definition.specs.Numbers.{sumN}
 use Rattle.definition.specs.Rows.{lumaFlat}

@@ -1,11 +1,11 @@
 -- A pretrained filter whose pairs are each less 255: what is taken off, 255 times its numbers, gives the filter's own sum back. Assumes nothing.
 use mathlib.Core.Path.{_≡_, sym, ap, ap₂, subst, _∙_}
 use mathlib.Core.List.{List}
-use Prim.Native.Nat.{ℕ, zero, suc, _+_, _-_, _*_, _^_, _≤_, _<_}
+use Prim.Native.Nat.{ℕ, zero, suc, _+_, _-_, _*_}
 use native.Mathlib.Decide.{decLe}
 use native.Mathlib.Omega.{arith}
 use native.Mathlib.Nat.{zero-add}
-use lib.IntN.{ℤ, pos, negsuc, natAbs, negℤ, _+ℤ_, _-ℤ_, _*ℤ_, sucℤ-*ℤ, zero-*ℤ, *ℤ-comm, *ℤ-negsuc, +ℤ-assoc, +ℤ-comm, +ℤ-idl, +ℤ-negℤ-cancel}
+use lib.IntN.{ℤ, pos, negsuc, negℤ, _+ℤ_, _-ℤ_, _*ℤ_, sucℤ-*ℤ, zero-*ℤ, *ℤ-comm, *ℤ-negsuc, +ℤ-assoc, +ℤ-comm, +ℤ-idl, +ℤ-negℤ-cancel}
 use mir.Syntax.{w32}
 use mir.Val.{SFits, toZ, ofZ}
 use mir.Facts.{toZ-ofZ}

@@ -7,7 +7,7 @@
 -- Assumes nothing.
 use mathlib.Core.Path.{_≡_, refl, sym, _∙_, ap, subst}
 use mathlib.Core.Bool.{Bool, true, false, cond}
-use mathlib.Core.List.{List, [], _∷_}
+use mathlib.Core.List.{List}
 use Prim.Native.Nat.{ℕ, zero, suc, _+_, _*_, _≤_, _<_}
 use native.Mathlib.Numerals.{add-one}
 use native.Mathlib.Omega.{arith}
@@ -16,8 +16,8 @@ use lib.Seq.{sets}
 use Rattle.definition.specs.Rows.{tab}
 use Rattle.laws.proofs.Lists.{tab-cong}
 use Rattle.history.specs.Ring.{Ring, fetch, fetch-same, shift, window, Rule, RingAt, fetched, onward, window-held, rows-apart}
-use Rattle.history.specs.History.{Opened, World, Rows, Like}
-use Rattle.history.specs.Steps.{Stepped, One, paint}
+use Rattle.history.specs.History.{Opened, World, Like}
+use Rattle.history.specs.Steps.{One, paint}
 
 -- The plane p is p₀ from position a on.
 abbrev pub From : ℕ → List ℕ → List ℕ → Type 0

@@ -3,14 +3,16 @@ use mathlib.Core.Path.{_≡_, refl, sym, _∙_, ap}
 use mathlib.Core.Bool.{Bool, true, false, cond}
 use mathlib.Core.List.{List, [], _∷_, _++_}
 use mathlib.Core.Logic.{_≢_}
-use Prim.Native.Nat.{ℕ, zero, suc, _+_, _*_, _-_, _≤_, _<_, min, zero-le}
-use native.Mathlib.Nat.{mul-le-mul-right, suc-mul, lt-of-lt-of-le}
+use Prim.Native.Nat.{ℕ, zero, suc, _+_, _*_, _-_, _/_, _%_, _≤_, _<_, zero-le}
+use native.Mathlib.Nat.{mul-le-mul-right, suc-mul, mod-lt, div-add-mod'}
 use native.Mathlib.Decide.{decLt, ℕ-discrete}
 use native.Mathlib.Numerals.{add-one}
 use native.Mathlib.Omega.{arith}
-use lib.ListN.{length, getD, set, take, drop, length-set, length-take, length-drop, length-append, List·getD-append}
+use lib.ListN.{length, getD, set, take, drop, length-set, length-take, length-drop}
 use lib.Seq.{getD-set-same, getD-set-other, sets, length-sets, set-out, ext-getD, getD-take, getD-drop}
+use lib.Arith.{digits-mod}
 use lib.Dec.{eqb}
+use borrow.Author.Tests.{eq-eqb, ne-eqb}
 use Rattle.laws.proofs.Lists.{sets-in, sets-before, sets-behind}
 
 -- row s of the rows of len elements that lie one after another in l
@@ -101,10 +103,57 @@ pub record Ring : Type 0 where
 abbrev pub wrap : ℕ → ℕ → ℕ
 wrap n s = cond (eqb (s + 1) n) 0 (s + 1)
 
+-- the slots of rows, one after another
+pub slots-wrap : (n a : ℕ) → 0 < n → (a + 1) % n ≡ wrap n (a % n)
+slots-wrap n a h =
+    let lt : a % n < n = mod-lt a h in
+    let e : a / n * n + a % n ≡ a = div-add-mod' a n in
+    elim (ℕ-discrete (a % n + 1) n) [
+      | yes q ↦
+          let d : a + 1 ≡ suc (a / n) * n + 0 = omega (arith, suc-mul (a / n) n) in
+          rw (eq-eqb (a % n + 1) n q) (ap (λ (x : ℕ). x % n) d ∙ digits-mod (suc (a / n)) h)
+      | no ne ↦
+          let d : a + 1 ≡ a / n * n + (a % n + 1) = omega arith in
+          rw (ne-eqb (a % n + 1) n ne) (ap (λ (x : ℕ). x % n) d ∙ digits-mod (a / n) (omega arith))
+    ]
+
+pub wrap-low : (n s : ℕ) → s ≤ n → wrap (n + 1) s ≤ n
+wrap-low n s h =
+    elim (ℕ-discrete (s + 1) (n + 1)) [
+      | yes e ↦ rw (eq-eqb (s + 1) (n + 1) e) zero-le
+      | no ne ↦ rw (ne-eqb (s + 1) (n + 1) ne) (omega arith)
+    ]
+
 -- the newest row, the m-th of the window: put into the next slot, or the row before it again
 abbrev pub fetch : ℕ → ℕ → Bool → List ℕ → Ring → Ring
 fetch len m true row g = record { slots = sets (g .slots) (g .next * len) row; idx = set (g .idx) m (g .next); next = wrap (m + 1) (g .next) }
 fetch len m false row g = record { slots = g .slots; idx = set (g .idx) m (getD (g .idx) (m - 1) 0); next = wrap (m + 1) (g .next) }
+
+-- it changes no length, and no index beyond a bound that the next slot keeps
+module _ (len m : ℕ) (b : Bool) (row : List ℕ) (g : Ring) where
+  pub fetch-next : fetch len m b row g .next ≡ wrap (m + 1) (g .next)
+  fetch-next = by b
+    where
+      by : (c : Bool) → fetch len m c row g .next ≡ wrap (m + 1) (g .next)
+      by true = refl
+      by false = refl
+
+  pub fetch-next-low : g .next ≤ m → fetch len m b row g .next ≤ m
+  fetch-next-low h = rw fetch-next (wrap-low m (g .next) h)
+
+  pub fetch-low : (top : ℕ) → g .next ≤ top → ((j : ℕ) → getD (g .idx) j 0 ≤ top) → (j : ℕ) → getD (fetch len m b row g .idx) j 0 ≤ top
+  fetch-low top h a = by b
+    where
+      by : (c : Bool) (j : ℕ) → getD (fetch len m c row g .idx) j 0 ≤ top
+      by true = set-low (g .idx) m (g .next) top h a
+      by false = set-low (g .idx) m (getD (g .idx) (m - 1) 0) top (a (m - 1)) a
+
+  pub fetch-sizes : (length (fetch len m b row g .slots) ≡ length (g .slots)) × (length (fetch len m b row g .idx) ≡ length (g .idx))
+  fetch-sizes = by b
+    where
+      by : (c : Bool) → (length (fetch len m c row g .slots) ≡ length (g .slots)) × (length (fetch len m c row g .idx) ≡ length (g .idx))
+      by true = (length-sets (g .slots) (g .next * len) row, length-set (g .idx) m (g .next))
+      by false = (refl, length-set (g .idx) m (getD (g .idx) (m - 1) 0))
 
 -- the row is read only where it has a slot of its own
 pub fetch-same : (len m : ℕ) (b : Bool) (r t : List ℕ) (g : Ring) → (b ≡ true → r ≡ t) → fetch len m b r g ≡ fetch len m b t g
@@ -217,12 +266,8 @@ module _ (len m top h : ℕ) (slot src : ℕ → ℕ) (own : ℕ → Bool) (pad 
     pub window-held : (k n : ℕ) (g : Ring) → Holds k n g → (j : ℕ) → j < n → window len g j ≡ pad (k + j)
     window-held k n g a j hj = rw (a .index j hj) (a .held j hj)
 
-    fetch-next : (b : Bool) (row : List ℕ) (g : Ring) → fetch len m b row g .next ≡ wrap (m + 1) (g .next)
-    fetch-next true row g = refl
-    fetch-next false row g = refl
-
     -- one row further
     pub onward : (k : ℕ) (g : Ring) (b : Bool) (row : List ℕ) → k < h → RingAt k g → own (k + m) ≡ b → (b ≡ true → row ≡ pad (k + m)) → RingAt (k + 1) (shift m (fetch len m b row g))
     onward k g b row hk a o e =
         let d : k + 1 + m ≡ k + m + 1 = omega arith in
-        shifted k (fetch len m b row g) (fetched k g b row hk a o e) (fetch-next b row g ∙ rw (d, r .wraps (k + m), a .next))
+        shifted k (fetch len m b row g) (fetched k g b row hk a o e) (fetch-next len m b row g ∙ rw (d, r .wraps (k + m), a .next))

@@ -1,16 +1,16 @@
 -- An advance is so many steps of one row: what one step shows, any number shows. Assumes nothing.
-use mathlib.Core.Path.{_≡_, refl, sym, _∙_, ap}
+use mathlib.Core.Path.{_≡_, refl, sym, _∙_}
 use mathlib.Core.List.{List}
-use Prim.Native.Nat.{ℕ, zero, suc, _+_, _*_, _-_, _≤_, _<_, min}
-use native.Mathlib.Nat.{add-zero, add-suc, lt-of-lt-of-le}
+use Prim.Native.Nat.{ℕ, zero, suc, _+_, _*_, _-_, _≤_, _<_}
+use native.Mathlib.Nat.{add-zero}
 use native.Mathlib.Decide.{decLt}
 use native.Mathlib.Omega.{arith}
-use lib.ListN.{length, getD}
+use lib.ListN.{length}
 use lib.Seq.{sets, length-sets}
 use Rattle.history.specs.Ring.{rows-apart}
 use Rattle.definition.specs.Rows.{tab}
 use Rattle.laws.proofs.Lists.{length-tab, getD-tab, sets-in, sets-before, sets-behind}
-use Rattle.history.specs.History.{Opened, World, Rows, Like, Off}
+use Rattle.history.specs.History.{Opened, World, Rows, Like}
 
 abbrev pub steps {ℓ} : {A : Type ℓ} → (A → A) → ℕ → A → A
 steps f zero x = x

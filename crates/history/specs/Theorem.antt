@@ -1,5 +1,5 @@
 -- ONE THEOREM FOR EVERY KIND OF UNIT. A kind gives an operation over any state, a memory, and a filter of one sample. Assumes nothing.
-use mathlib.Core.Path.{_≡_, refl, sym, _∙_, ap}
+use mathlib.Core.Path.{_≡_, refl, sym, _∙_}
 use mathlib.Core.Bool.{true}
 use mathlib.Core.List.{List}
 use Prim.Native.Nat.{ℕ, _+_, _*_, _≤_, _<_}
@@ -7,7 +7,7 @@ use lib.ListN.{length, getD}
 use lib.Dec.{eqb}
 use lib.Seq.{sets}
 use Rattle.definition.specs.Rows.{tab}
-use Rattle.history.specs.History.{World, Like, History, Valid, After}
+use Rattle.history.specs.History.{Like, History, Valid, After}
 use Rattle.history.specs.Memory.{Memory, Kind, Reached, keptAt, one}
 use Rattle.history.specs.Operation.{Operation, Frame, unitOf, Fits, any-history}
 

@@ -2,7 +2,7 @@
 use mathlib.Core.Path.{_≡_, refl}
 use mathlib.Core.Bool.{Bool, true, false}
 use mathlib.Core.List.{List, [], _∷_, _++_}
-use Prim.Native.Nat.{ℕ, zero, suc}
+use Prim.Native.Nat.{zero, suc}
 use native.Mathlib.Omega.{arith}
 use lib.Dec.{T}
 use Rattle.definition.specs.Refusals.{Check, _⇒_, lowest}

@@ -7,4 +7,3 @@ pub mod Tables
 pub mod Passes
 pub mod Tests
 pub mod Checks
-pub mod Cards

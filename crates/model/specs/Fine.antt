@@ -1,16 +1,17 @@
 -- What a status of 0 says of a unit: each line of the table, turned round. Assumes nothing.
-use mathlib.Core.Path.{_≡_, refl, sym, _∙_, ap}
-use mathlib.Core.Bool.{Bool, true, false, cond, not, _&&_, _||_}
-use Prim.Native.Nat.{ℕ, zero, suc, _+_, _*_, _-_, _/_, _%_, _≤_, _<_}
+use mathlib.Core.Path.{_≡_, refl, sym}
+use mathlib.Core.Bool.{Bool, true, false, not, _&&_, _||_}
+use Prim.Native.Nat.{ℕ, zero, suc, _+_, _*_, _-_, _%_, _≤_, _<_}
+use native.Mathlib.Nat.{mul-le-mul-right}
 use native.Mathlib.Omega.{arith}
 use lib.Dec.{ltb, leb, eqb}
 use borrow.Author.Tests.{ltb-false, leb-true, eqb-true}
-use Rattle.definition.specs.Padding.{hasLeft, hasRight}
-use Rattle.definition.specs.Units.{Operation, luma, user, pretrained, chroma, border, setSize, Given}
-use Rattle.definition.specs.Refusals.{Sizes, unitStatus, unitChecks, outside, beside, topRows, bottomRows, planeRows, sized, leftOf, rightOf, badStride, badPair, badPlane, badLeft, badTop, badBottom, badMasks, badFilters, badLuma, badLumaStride, badNoskip}
+use Rattle.definition.specs.Padding.{hasLeft}
+use Rattle.definition.specs.Units.{Operation, luma, border, Given}
+use Rattle.definition.specs.Refusals.{Sizes, unitStatus, unitChecks, outside, topRows, bottomRows, planeRows, sized, leftOf, rightOf, badPair, badFilters, badLuma, badLumaStride, badNoskip}
 use Rattle.laws.proofs.Ints.{never}
 use Rattle.laws.proofs.Passes.{both}
-use Rattle.laws.proofs.Checks.{Clear, clear}
+use Rattle.laws.proofs.Checks.{clear}
 
 pub not-both : (a b : Bool) → (a || b) ≡ false → (a ≡ false) × (b ≡ false)
 not-both true b e = absurd (never (sym e))
@@ -90,3 +91,9 @@ module _ (op : Operation) (g : Given) (z : Sizes) where
         filters = c .1 .1 .1 .1 .1 .1 .1 .1 .1 .0;
         luma = c .1 .1 .1 .1 .1 .1 .1 .1 .1 .1 .0;
       }
+
+  -- each row of the rectangle lies inside the plane
+  pub row-room : Fine → (k : ℕ) → k < g .h → g .off + k * g .stride + g .w ≤ z .plane
+  row-room f k h =
+      let e : k ≤ g .h + planeRows op (g .edges) - 1 = omega arith in
+      omega (arith, f .plane .high, mul-le-mul-right (g .stride) e)

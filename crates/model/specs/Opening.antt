@@ -13,7 +13,7 @@ use borrow.Author.Tests.{le-leb}
 use Rattle.definition.specs.Rows.{tab, rowBytes}
 use Rattle.definition.specs.Units.{Operation, border, Given, Lent}
 use Rattle.laws.proofs.Lists.{length-tab, getD-tab, tab-low}
-use Rattle.history.specs.Ring.{Ring, RingAt, rowOf, row-same, row-other, rows-apart, append-low}
+use Rattle.history.specs.Ring.{Ring, RingAt, rowOf, row-same, row-other, append-low}
 use Rattle.model.specs.Rows.{padRow, firstRow, lastRow, src, own, pad-size, first-low, border-some, first-again}
 
 -- the first n rows of `len` bytes, those before the first that is padded anew left as they are

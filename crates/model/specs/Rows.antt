@@ -2,22 +2,21 @@
 -- A row is padded anew (`own`) from `first` to before `last`; the rows above and below repeat the first and the last of these.
 -- The laws: what a repeated row is, and that a row is padded from nothing before the row that is restored next. Assumes nothing.
 use mathlib.Core.Path.{_≡_, refl, sym, _∙_, ap}
-use mathlib.Core.Bool.{Bool, true, false, cond, _||_}
+use mathlib.Core.Bool.{Bool, true, false, cond}
 use mathlib.Core.List.{List}
-use Prim.Native.Nat.{ℕ, zero, suc, _+_, _*_, _-_, _≤_, _<_, min, max}
-use native.Mathlib.Nat.{mul-le-mul-right, suc-mul, lt-of-lt-of-le}
-use native.Mathlib.Decide.{decLt, decLe}
+use Prim.Native.Nat.{ℕ, suc, _+_, _*_, _-_, _≤_, _<_, min, max}
+use native.Mathlib.Nat.{mul-le-mul-right, suc-mul}
+use native.Mathlib.Decide.{decLt}
 use native.Mathlib.Omega.{arith}
 use lib.Dec.{ltb}
 use mathlib.Core.Logic.{_≢_}
 use Rattle.history.specs.Ring.{Rule, wrap}
-use lib.IntN.{ℤ, pos, negsuc, _+ℤ_, _-ℤ_}
+use lib.IntN.{ℤ, pos, negsuc, _-ℤ_}
 use lib.ListN.{length, getD, replicate, length-replicate}
 use lib.Seq.{sets, length-sets}
 use borrow.Author.Tests.{lt-ltb, le-ltb, ltb-true, ltb-false}
 use Rattle.definition.specs.Rows.{tab, rowBytes, rowOrigin}
-use Rattle.definition.specs.Numbers.{byteAt}
-use Rattle.definition.specs.Padding.{hasLeft, hasRight, hasTop, hasBottom, topIntegrated, bottomIntegrated, padded, rowAt}
+use Rattle.definition.specs.Padding.{hasLeft, hasRight, hasTop, hasBottom, topIntegrated, bottomIntegrated, padded}
 use Rattle.definition.specs.Units.{Operation, luma, user, pretrained, chroma, border, Given, Lent, unitRow, sampleAt, ownRow, planeRow, topRow, bottomRow, savedAbove}
 use Rattle.definition.specs.Refusals.{topRows, bottomRows, planeRows}
 use Rattle.laws.proofs.Ints.{never, sub-pos, sub-neg, before-pos}

@@ -1,24 +1,23 @@
 -- What a filter sees: a list of padded rows, `around` which each sample is restored. A filter's sample over the flat rows of a ring is the one over the
 -- list of its window's rows, and over the rows of the plane at the opening it is the definition's. Assumes nothing.
 use mathlib.Core.Path.{_≡_, refl, sym, _∙_, ap}
-use mathlib.Core.Bool.{Bool, true, false, cond}
-use mathlib.Core.List.{List, [], _∷_}
+use mathlib.Core.List.{List, []}
 use Prim.Native.Nat.{ℕ, zero, suc, _+_, _*_, _-_, _≤_, _<_}
 use native.Mathlib.Nat.{not-suc-le-zero, le-of-suc-le-suc, mul-comm}
 use native.Mathlib.Omega.{arith}
 use lib.Dec.{T}
-use lib.IntN.{ℤ, pos, negsuc, negℤ, natAbs, _+ℤ_, _-ℤ_, _*ℤ_, +ℤ-assoc, +ℤ-comm, +ℤ-negℤ-cancel}
-use lib.ListN.{length, getD, take, drop, replicate, length-replicate}
-use lib.Seq.{sets, getD-take, getD-drop}
+use lib.IntN.{ℤ, pos, negℤ, natAbs, _+ℤ_, _-ℤ_, _*ℤ_, +ℤ-assoc, +ℤ-comm, +ℤ-negℤ-cancel}
+use lib.ListN.{getD, drop, replicate, length-replicate}
+use lib.Seq.{getD-take, getD-drop}
 use lib.Signed.{nonNeg, pos-natAbs}
 use Rattle.definition.specs.Numbers.{sumZ}
 use Rattle.definition.specs.Rows.{tab, flatAround, rowBytes, rowOrigin}
 use Rattle.definition.specs.Sample.{rounded, dyOf, dxOf, centre, pairOf, nsTap, pcTap, lumaTap, nsConfigY, nsConfigUv, nsConfigUvFromY, pcConfig, lumaSample, pretrainedSample, chromaSample}
 use Rattle.definition.specs.Units.{Operation, border, Given, Lent, sampleAt, around}
-use Rattle.laws.proofs.Ints.{abs-neg, abs-add, abs-mul, nonneg-add}
+use Rattle.laws.proofs.Ints.{abs-neg, abs-add, nonneg-add}
 use Rattle.laws.proofs.Lists.{getD-tab, length-tab, sets-in}
 use Rattle.laws.proofs.Tables.{all, near, near-at}
-use Rattle.history.specs.Ring.{Ring, window, rowOf}
+use Rattle.history.specs.Ring.{rowOf}
 use Rattle.model.specs.Rows.{padRow}
 
 -- SUMS AND FILTERS THAT AGREE where they look

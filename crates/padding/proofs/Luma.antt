@@ -16,7 +16,7 @@ use Rattle.definition.specs.Refusals.{beside}
 use Rattle.laws.proofs.Ints.{never}
 use Rattle.laws.proofs.Lists.{tab-cong, length-tab, getD-tab, sets-run, sets-before, sets-behind, sets-in}
 use Rattle.padding.specs.Padded.{lowerAt, source}
-use Rattle.padding.specs.Steps.{filled, columns, repeated}
+use Rattle.padding.specs.Steps.{columns, repeated}
 use Rattle.padding.proofs.Around.{same-byte, less, more, row-column}
 use Rattle.padding.proofs.Filled.{unmasked}
 use Rattle.padding.proofs.Columns.{lower-even}

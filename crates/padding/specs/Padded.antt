@@ -2,7 +2,7 @@
 -- 5 where a byte that is read or written lies outside; a row of no samples has no first one to repeat, and is outside too.
 use mathlib.Core.Bool.{Bool, cond, not, _&&_, _||_}
 use mathlib.Core.List.{List}
-use Prim.Native.Nat.{ℕ, zero, suc, _+_, _-_, _*_, _%_}
+use Prim.Native.Nat.{ℕ, zero, suc, _+_, _-_, _%_}
 use lib.Dec.{leb, eqb}
 use lib.IntN.{ℤ, pos, _-ℤ_}
 use lib.ListN.{length, getD}

@@ -1,31 +1,29 @@
 -- The history of a unit that is broken off, written over and restored to its end, and what demand 3 says of it. Assumes nothing.
 use mathlib.Core.Path.{_≡_, refl, sym, _∙_, ap}
-use mathlib.Core.Bool.{true, false, cond, _&&_}
-use mathlib.Core.Logic.{_≢_}
+use mathlib.Core.Bool.{cond}
 use mathlib.Core.List.{List}
-use Prim.Native.Nat.{ℕ, zero, suc, _+_, _*_, _-_, _/_, _≤_, _<_, min}
+use Prim.Native.Nat.{ℕ, zero, suc, _+_, _*_, _-_, _/_, _<_, min}
 use native.Mathlib.Omega.{arith}
 use native.Mathlib.Decide.{decLt}
-use lib.Dec.{eqb, leb}
-use lib.ListN.{length, getD, set}
+use lib.Dec.{eqb}
+use lib.ListN.{length, set}
 use borrow.Author.Tests.{le-leb, lt-leb, ne-eqb}
 use Rattle.definition.specs.Blocks.{side, piecesOf}
-use Rattle.definition.specs.Units.{luma, Lent, finalSample}
+use Rattle.definition.specs.Units.{luma, Lent}
 use Rattle.definition.specs.Refusals.{sizesOf}
 use Rattle.history.specs.History.{History, opened, _▷_, advance, write, run, sum, last, Valid, After}
 use Rattle.model.specs.Fine.{Fine, fine}
-use Rattle.units.specs.declared.Numbers.{Numbers}
-use Rattle.units.specs.declared.State.{State}
+use Rattle.refusals.specs.declared.Numbers.{Numbers}
 use Rattle.units.specs.declared.Opened.{Opened}
 use Rattle.units.specs.declared.Advanced.{Advanced}
-use Rattle.units.specs.States.{givenOf}
+use Rattle.refusals.specs.Given.{givenOf}
 use Rattle.units.specs.Operations.{Call, answer, Answered}
 use Rattle.units.specs.Openings.{Begun, openStatus, openState}
 use Rattle.units.specs.Advances.{callOf}
 use Rattle.units.specs.Wholes.{unit}
 use Rattle.units.specs.LumaHistory.{luma-history}
 use Rattle.paused.specs.declared.Paused.{Paused}
-use Rattle.paused.specs.Paused.{heldSample, Held, Whole}
+use Rattle.paused.specs.Paused.{heldSample, Whole}
 
 -- broken off after count rows, and written over where a row was finished
 abbrev between : ℕ → ℕ → History Call (Unit {0})

@@ -8,8 +8,8 @@ use lib.Dec.{eqb}
 use lib.ListN.{length, getD}
 use Rattle.definition.specs.Blocks.{side, piecesOf}
 use Rattle.definition.specs.Units.{luma, Lent, finalSample}
-use Rattle.units.specs.declared.Numbers.{Numbers}
-use Rattle.units.specs.States.{givenOf}
+use Rattle.refusals.specs.declared.Numbers.{Numbers}
+use Rattle.refusals.specs.Given.{givenOf}
 use Rattle.units.specs.Openings.{openStatus}
 use Rattle.paused.specs.declared.Paused.{Paused}
 

@@ -1,5 +1,5 @@
 // The generator that both programs make their units from: numbers and lists that depend on the unit's number alone.
-ghost use Prim.Native.Nat.{_<_, _≤_};
+ghost use Prim.Native.Nat.{_<_};
 
 fn spread(x: usize) -> usize {
     let a = x ^ (x << 13);

@@ -5,7 +5,7 @@ use mathlib.Core.Path.{_≡_, refl}
 use Prim.Native.Nat.{ℕ}
 use lib.Dec.{eqb}
 use lib.ListN.{replicate}
-use Rattle.definition.specs.Units.{Operation, luma, user, chroma, Given}
+use Rattle.definition.specs.Units.{luma, user, chroma, Given}
 use Rattle.definition.specs.Refusals.{Sizes, unitStatus, firstPass, classStatus}
 
 infix 20 _gives_

@@ -2,23 +2,27 @@
 use mathlib.Core.Path.{_≡_, refl, sym, _∙_, ap}
 use mathlib.Core.List.{List}
 use Prim.Native.Nat.{ℕ, zero, suc, _+_, _-_, _/_, min}
+use native.Mathlib.Nat.{add-zero}
 use native.Mathlib.Numerals.{add-one}
+use native.Mathlib.Omega.{arith}
 use lib.ListN.{length}
 use Rattle.definition.specs.Blocks.{piecesOf}
 use Rattle.definition.specs.Units.{Operation, Lent}
 use Rattle.history.specs.History.{World, Out}
+use Rattle.history.specs.Ring.{Ring}
 use Rattle.history.specs.Steps.{steps}
 use Rattle.history.specs.Operation.{advanced, pickOut}
 use Rattle.units.specs.declared.State.{State}
-use Rattle.units.specs.Operations.{Answered, answer, statusOf, stepOf}
-use Rattle.units.specs.Advances.{callOf, Gone}
+use Rattle.units.specs.Windows.{ring}
+use Rattle.units.specs.Operations.{Answered, answer, statusOf, stepOf, moved}
+use Rattle.units.specs.Advances.{callOf, Stepped, Gone}
 
 module _ (op : Operation) (l : Lent) (s₀ : State) (p₀ : List ℕ) where
-  pub gone-none : Gone op l s₀ p₀ 0 s₀ p₀
+  gone-none : Gone op l s₀ p₀ 0 s₀ p₀
   gone-none = record { state = refl; plane = refl; size = refl }
 
   -- one step more, by what the step is
-  pub gone-more : (i : ℕ) {s t : State} {p q : List ℕ} → Gone op l s₀ p₀ i s p → record { state = t; plane = q } ≡ stepOf op l (record { state = s; plane = p }) → length q ≡ length p →
+  gone-more : (i : ℕ) {s t : State} {p q : List ℕ} → Gone op l s₀ p₀ i s p → record { state = t; plane = q } ≡ stepOf op l (record { state = s; plane = p }) → length q ≡ length p →
       Gone op l s₀ p₀ (i + 1) t q
   gone-more i {s} {t} {p} {q} g e z =
       let w : World State = record { state = s₀; plane = p₀ } in
@@ -28,13 +32,25 @@ module _ (op : Operation) (l : Lent) (s₀ : State) (p₀ : List ℕ) where
       record { state = ap (λ (x : World State). x .state) d; plane = ap (λ (x : World State). x .plane) d; size = z ∙ g .size }
 
   -- an advance that is served
-  pub served : (count n i pieces : ℕ) {s : State} {p : List ℕ} → statusOf (callOf op count l) s₀ p₀ ≡ 0 → n ≡ min count (s₀ .numbers .h - s₀ .done) → i ≡ n →
-      pieces ≡ piecesOf (l .skip) (s₀ .numbers .w / 4) (s₀ .done) n → Gone op l s₀ p₀ i s p →
+  served : (count n pieces : ℕ) {s : State} {p : List ℕ} → statusOf (callOf op count l) s₀ p₀ ≡ 0 → n ≡ min count (s₀ .numbers .h - s₀ .done) →
+      pieces ≡ piecesOf (l .skip) (s₀ .numbers .w / 4) (s₀ .done) n → Gone op l s₀ p₀ n s p →
       Answered (record { status = 0; pieces = pieces; state = s }) p (answer (callOf op count l) s₀ p₀)
   unfolding advanced
-  served count n i pieces z en ei ep g =
-      let w : Gone op l s₀ p₀ n _ _ = rw ei at g in
-      rw (z, ← en) (record { status = refl; pieces = ep; state = w .state; plane = w .plane })
+  served count n pieces z en ep g = rw (z, ← en) (record { status = refl; pieces = ep; state = g .state; plane = g .plane })
+
+  pub gone-first : Gone op l s₀ p₀ 0 (moved s₀ (s₀ .done + 0) (s₀ .classes) (ring (s₀ .rows) (s₀ .indices) (s₀ .next))) p₀
+  gone-first = rw (add-zero (s₀ .done)) gone-none
+
+  pub gone-row : (i : ℕ) {classes cs p q : List ℕ} {old new : Ring} → Gone op l s₀ p₀ i (moved s₀ (s₀ .done + i) classes old) p →
+      Stepped op (s₀ .numbers) (s₀ .done + i) l p classes old q cs new → Gone op l s₀ p₀ (i + 1) (moved s₀ (s₀ .done + (i + 1)) cs new) q
+  gone-row i g r =
+      let d : s₀ .done + (i + 1) ≡ s₀ .done + i + 1 = omega arith in
+      rw d (gone-more i g (r .is (s₀ .op)) (r .size))
+
+  pub gone-all : (count n i pieces : ℕ) {cs p : List ℕ} {r : Ring} → statusOf (callOf op count l) s₀ p₀ ≡ 0 → n ≡ min count (s₀ .numbers .h - s₀ .done) → i ≡ n →
+      pieces ≡ piecesOf (l .skip) (s₀ .numbers .w / 4) (s₀ .done) n → Gone op l s₀ p₀ i (moved s₀ (s₀ .done + i) cs r) p →
+      Answered (record { status = 0; pieces = pieces; state = moved s₀ (s₀ .done + n) cs r }) p (answer (callOf op count l) s₀ p₀)
+  gone-all count n i pieces z en ei ep g = served count n pieces z en ep (rw ei at g)
 
   -- .. and one that is declined
   pub declined : (count st : ℕ) → st ≡ statusOf (callOf op count l) s₀ p₀ → (st ≡ 0 → ⊥) →

@@ -4,26 +4,25 @@ use mathlib.Core.Bool.{Bool, true, false}
 use mathlib.Core.List.{List, [], _∷_, _++_}
 use Prim.Native.Nat.{ℕ, zero, suc, _+_, _*_, _^_, _≤_, _<_, zero-le}
 use native.Mathlib.Nat.{zero-add, suc-add}
-use native.Mathlib.Decide.{ℕ-discrete}
 use native.Mathlib.Numerals.{add-one}
 use native.Mathlib.Omega.{arith}
 use lib.IntN.{ℤ}
 use lib.ListN.{length, getD, set, take, drop, length-set, length-append, take-append-drop, List·getD-append}
 use lib.Seq.{sets, length-sets, set-append-left, length-take-le, getD-drop, take-append-seam, drop-append-seam}
-use borrow.Author.Tests.{eq-eqb, ne-eqb}
 use Rattle.definition.specs.Rows.{tab}
 use Rattle.definition.specs.Blocks.{maskAt}
-use Rattle.definition.specs.Units.{chroma, Given, Lent, sampleAt, lumaAt}
-use Rattle.history.specs.Ring.{Ring, fetch, slid, slid-length, slid-low, set-low, append-low, wrap}
+use Rattle.definition.specs.Units.{chroma, Given, Lent, lumaAt}
+use Rattle.history.specs.Ring.{Ring, fetch, fetch-sizes, fetch-low, fetch-next-low, slid, slid-length, slid-low, set-low, append-low, wrap}
 use Rattle.model.specs.Rows.{padRow, own, pad-size}
 use Rattle.model.specs.LumaRows.{lumaPadRow}
-use Rattle.units.specs.declared.Numbers.{Numbers}
-use Rattle.units.specs.States.{givenOf}
+use Rattle.refusals.specs.declared.Numbers.{Numbers}
+use Rattle.refusals.specs.Given.{givenOf}
 use Rattle.units.specs.Windows.{ring, rowsLent, Fetched}
 use Rattle.units.specs.Cells.{chromaCell}
-use Rattle.units.specs.Operations.{tookOwn, tookLuma, chromaState, chromaPlane}
+use Rattle.units.specs.Operations.{stateAt, tookOwn, tookLuma, chromaState, chromaPlane}
 use Rattle.units.specs.Chroma.{chromaLent, lumaRowsLent}
-use Rattle.units.specs.ChromaRows.{fetchBehind, LumaFetched, stateAt, Stepped}
+use Rattle.units.specs.ChromaRows.{fetchBehind, LumaFetched, ChromaStepped}
+use Rattle.units.proofs.Openings.{pad-lent}
 use Rattle.units.proofs.Behind.{set-second, sets-first, sets-second}
 
 -- TWO LISTS, one behind the other
@@ -100,14 +99,6 @@ both-rings o row luma rows idx next er ei ew n =
     both-parts row luma (take 380 rows) (drop 380 rows) (take 5 idx) (drop 5 idx) next (length-take-le 380 rows (omega arith)) (length-take-le 5 idx (omega arith)) ew n o
 
 -- LENGTHS stay
-fetch-long : (o : Bool) (row : List ℕ) (g : Ring) → length (fetch 76 4 o row g .slots) ≡ length (g .slots)
-fetch-long true row g = length-sets (g .slots) (g .next * 76) row
-fetch-long false row g = refl
-
-fetch-count : (o : Bool) (row : List ℕ) (g : Ring) → length (fetch 76 4 o row g .idx) ≡ length (g .idx)
-fetch-count true row g = length-set (g .idx) 4 (g .next)
-fetch-count false row g = length-set (g .idx) 4 (getD (g .idx) 3 0)
-
 behind-long : (o : Bool) (row : List ℕ) (g : Ring) → length (fetchBehind o row g .slots) ≡ length (g .slots)
 behind-long true row g = length-sets (g .slots) (380 + g .next * 140) row
 behind-long false row g = refl
@@ -122,24 +113,9 @@ slid-count l =
     ((λ k. slid-length 4 (take 5 l) k + slid-length 4 (drop 5 l) k) ∙ (sym (length-append (take 5 l) (drop 5 l)) ∙ ap length (take-append-drop 5 l)))
 
 -- LOW INDICES
-wrap-low : (s : ℕ) → s ≤ 4 → wrap 5 s ≤ 4
-wrap-low s h =
-    elim (ℕ-discrete (s + 1) 5) [
-      | yes e ↦ rw (eq-eqb (s + 1) 5 e) (omega arith)
-      | no ne ↦ rw (ne-eqb (s + 1) 5 ne) (omega arith)
-    ]
-
-fetch-low : (o : Bool) (row : List ℕ) (g : Ring) → g .next ≤ 4 → ((j : ℕ) → getD (g .idx) j 0 ≤ 4) → (j : ℕ) → getD (fetch 76 4 o row g .idx) j 0 ≤ 4
-fetch-low true row g n h = set-low (g .idx) 4 (g .next) 4 n h
-fetch-low false row g n h = set-low (g .idx) 4 (getD (g .idx) 3 0) 4 (h 3) h
-
 behind-low : (o : Bool) (row : List ℕ) (g : Ring) → g .next ≤ 4 → ((j : ℕ) → getD (g .idx) j 0 ≤ 4) → (j : ℕ) → getD (fetchBehind o row g .idx) j 0 ≤ 4
 behind-low true row g n h = set-low (g .idx) 9 (g .next) 4 n h
 behind-low false row g n h = set-low (g .idx) 9 (getD (g .idx) 8 0) 4 (h 8) h
-
-fetch-next : (o : Bool) (row : List ℕ) (g : Ring) → g .next ≤ 4 → fetch 76 4 o row g .next ≤ 4
-fetch-next true row g h = wrap-low (g .next) h
-fetch-next false row g h = wrap-low (g .next) h
 
 take-low : (n : ℕ) (l : List ℕ) (b : ℕ) → ((j : ℕ) → getD l j 0 ≤ b) → (j : ℕ) → getD (take n l) j 0 ≤ b
 take-low zero l b h j = zero-le
@@ -155,10 +131,6 @@ slid-both-low l h =
 module _ (left top bottom : List ℕ) (filter : List ℤ) (lumaPlane lumaTop lumaBottom skip : List ℕ) where
   abbrev lent : Lent
   lent = chromaLent left top bottom filter lumaPlane lumaTop lumaBottom skip
-
-  pub pad-lent : (g : Given) (p : List ℕ) (R : ℕ) → padRow chroma g (rowsLent left top bottom) p R ≡ padRow chroma g lent p R
-  unfolding padRow sampleAt
-  pad-lent g p R = refl
 
   pub luma-lent : (g : Given) (R : ℕ) → lumaPadRow g (lumaRowsLent lumaPlane lumaTop lumaBottom) R ≡ lumaPadRow g lent R
   unfolding lumaPadRow lumaAt
@@ -179,25 +151,25 @@ module _ (left top bottom : List ℕ) (filter : List ℤ) (lumaPlane lumaTop lum
         let d : idx′ ≡ fetch 76 4 o (padRow chroma given (rowsLent left top bottom) p (done + 4)) (ring rows idx next) .idx = ap (λ (r : Ring). r .idx) (f .is) in
         rw e
         (behind-low o (lumaPadRow given (lumaRowsLent lumaPlane lumaTop lumaBottom) (done + 4)) (ring rows′ idx′ next) n
-        (λ i. rw d (fetch-low o (padRow chroma given (rowsLent left top bottom) p (done + 4)) (ring rows idx next) n low i)) j)
+        (λ i. rw d (fetch-low 76 4 o (padRow chroma given (rowsLent left top bottom) p (done + 4)) (ring rows idx next) 4 n low i)) j)
 
     now-next : next′ ≤ 4
     now-next =
         let d : next′ ≡ fetch 76 4 o (padRow chroma given (rowsLent left top bottom) p (done + 4)) (ring rows idx next) .next = ap (λ (r : Ring). r .next) (f .is) in
-        rw d (fetch-next o (padRow chroma given (rowsLent left top bottom) p (done + 4)) (ring rows idx next) n)
+        rw d (fetch-next-low 76 4 o (padRow chroma given (rowsLent left top bottom) p (done + 4)) (ring rows idx next) n)
 
     module _ (er : length rows ≡ 1080) (ei : length idx ≡ 10) where
       pub now-long : length rows″ ≡ 1080
       now-long =
           ap (λ (r : Ring). length (r .slots)) (m .is) ∙
           (behind-long o (lumaPadRow given (lumaRowsLent lumaPlane lumaTop lumaBottom) (done + 4)) (ring rows′ idx′ next) ∙
-          (ap (λ (r : Ring). length (r .slots)) (f .is) ∙ (fetch-long o (padRow chroma given (rowsLent left top bottom) p (done + 4)) (ring rows idx next) ∙ er)))
+          (ap (λ (r : Ring). length (r .slots)) (f .is) ∙ (fetch-sizes 76 4 o (padRow chroma given (rowsLent left top bottom) p (done + 4)) (ring rows idx next) .0 ∙ er)))
 
       pub now-count : length idx″ ≡ 10
       now-count =
           ap (λ (r : Ring). length (r .idx)) (m .is) ∙
           (behind-count o (lumaPadRow given (lumaRowsLent lumaPlane lumaTop lumaBottom) (done + 4)) (ring rows′ idx′ next) ∙
-          (ap (λ (r : Ring). length (r .idx)) (f .is) ∙ (fetch-count o (padRow chroma given (rowsLent left top bottom) p (done + 4)) (ring rows idx next) ∙ ei)))
+          (ap (λ (r : Ring). length (r .idx)) (f .is) ∙ (fetch-sizes 76 4 o (padRow chroma given (rowsLent left top bottom) p (done + 4)) (ring rows idx next) .1 ∙ ei)))
 
       abbrev ownRing : Ring
       ownRing = fetch 76 4 o (padRow chroma given lent p (done + 4)) (ring (take 380 rows) (take 5 idx) next)
@@ -213,11 +185,11 @@ module _ (left top bottom : List ℕ) (filter : List ℤ) (lumaPlane lumaTop lum
           ((λ k. ring (fetchBehind o luma (ring (f .is k .slots) (f .is k .idx) next) .slots) (fetchBehind o luma (ring (f .is k .slots) (f .is k .idx) next) .idx) (f .is k .next)) ∙
           (both-rings o row luma rows idx next er ei (pad-size chroma given (rowsLent left top bottom) p (done + 4)) n ∙
           (λ k.
-          apart o (pad-lent given p (done + 4) k) (luma-lent given (done + 4) k) (ring (take 380 rows) (take 5 idx) next)
+          apart o (pad-lent chroma lent given p (done + 4) k) (luma-lent given (done + 4) k) (ring (take 380 rows) (take 5 idx) next)
           (ring (drop 380 rows) (drop 5 idx) next))))
 
       own-size : length (ownRing .idx) ≡ 5
-      own-size = fetch-count o (padRow chroma given lent p (done + 4)) (ring (take 380 rows) (take 5 idx) next) ∙ length-take-le 5 idx (omega arith)
+      own-size = fetch-sizes 76 4 o (padRow chroma given lent p (done + 4)) (ring (take 380 rows) (take 5 idx) next) .1 ∙ length-take-le 5 idx (omega arith)
 
       moved-on : {idx‴ : List ℕ} → idx‴ ≡ slid 4 (take 5 idx″) ++ slid 4 (drop 5 idx″) → idx‴ ≡ slid 4 (ownRing .idx) ++ slid 4 (lumaRing .idx)
       moved-on d =
@@ -230,14 +202,18 @@ module _ (left top bottom : List ℕ) (filter : List ℤ) (lumaPlane lumaTop lum
 
       pub stepped : {q idx‴ : List ℕ} {mask columns : ℕ} → mask ≡ maskAt skip done → columns ≡ 2 ^ g .«ss_hor» →
           q ≡ sets p at (tab (g .w) (λ x. chromaCell rows″ idx″ columns filter mask (getD p (at + x) 0) x)) → idx‴ ≡ slid 4 (take 5 idx″) ++ slid 4 (drop 5 idx″) →
-          Stepped g done lent p (ring rows idx next) q (ring rows″ idx‴ next′)
+          ChromaStepped g done lent p (ring rows idx next) q (ring rows″ idx‴ next′)
       unfolding chromaState chromaPlane tookOwn tookLuma
       stepped {mask = mask} {columns = columns} em ec e d =
           let t = moved-on d in
           let w = e ∙ (λ k. sets p at (tab (g .w) (λ x. chromaCell (taken k .slots) (taken k .idx) (ec k) filter (em k) (getD p (at + x) 0) x))) in
           record {
-            turn = λ op classes. λ k. record { state = stateAt op g classes (done + 1) (ring (taken k .slots) (t k) (taken k .next)); plane = w k };
-            size = ap length e ∙ length-sets p at (tab (g .w) (λ x. chromaCell rows″ idx″ columns filter mask (getD p (at + x) 0) x));
+            step =
+                λ classes.
+                record {
+                  is = λ o. λ k. record { state = stateAt o g (done + 1) classes (ring (taken k .slots) (t k) (taken k .next)); plane = w k };
+                  size = ap length e ∙ length-sets p at (tab (g .w) (λ x. chromaCell rows″ idx″ columns filter mask (getD p (at + x) 0) x));
+                };
             low = λ j. rw d (slid-both-low idx″ now-low j);
             next = now-next;
             long = now-long;

@@ -1,34 +1,28 @@
--- A chroma unit's advance and opening, made of its rows. Assumes nothing.
+-- A chroma unit's opening, made of its rows. Assumes nothing.
 use mathlib.Core.Path.{_≡_, refl, sym, _∙_, ap}
 use mathlib.Core.Bool.{Bool, true, false, cond}
 use mathlib.Core.List.{List, [], _∷_, _++_}
-use Prim.Native.Nat.{ℕ, zero, suc, _+_, _*_, _-_, _/_, _≤_, min}
-use native.Mathlib.Nat.{add-zero, suc-mul}
+use Prim.Native.Nat.{ℕ, zero, suc, _+_, _*_, _≤_}
+use native.Mathlib.Nat.{suc-mul}
 use native.Mathlib.Omega.{arith}
 use lib.Dec.{leb}
 use lib.IntN.{ℤ}
 use lib.ListN.{length, take, drop, replicate, length-replicate, replicate-append-replicate}
 use lib.Seq.{sets}
 use Rattle.definition.specs.Rows.{tab}
-use Rattle.definition.specs.Blocks.{piecesOf}
 use Rattle.definition.specs.Units.{chroma, Given, Lent}
-use Rattle.definition.specs.Refusals.{unitStatus}
 use Rattle.model.specs.Rows.{padRow, firstRow, pad-size}
 use Rattle.model.specs.LumaRows.{lumaPadRow}
 use Rattle.model.specs.Opening.{filled, filledRows, filled-size, openRing, openIndex}
-use Rattle.units.specs.declared.Numbers.{Numbers}
+use Rattle.refusals.specs.declared.Numbers.{Numbers}
+use Rattle.refusals.specs.Given.{givenOf}
 use Rattle.units.specs.declared.State.{State}
-use Rattle.units.specs.States.{givenOf}
-use Rattle.units.specs.Windows.{ring, rowsLent}
-use Rattle.units.specs.Operations.{Answered, answer, moved}
-use Rattle.units.specs.Advances.{callOf, Gone}
-use Rattle.units.specs.Openings.{openState, noState, stateUnless, Begun}
+use Rattle.units.specs.Windows.{rowsLent}
+use Rattle.units.specs.Openings.{openState, openStatus, noState, Begun}
 use Rattle.units.specs.Chroma.{chromaLent, lumaRowsLent}
-use Rattle.units.specs.ChromaRows.{chromaSizes, chromaStatus, Stepped}
-use Rattle.units.proofs.Advances as Advances
 use Rattle.units.proofs.Behind.{sets-first}
-use Rattle.units.proofs.Shaped.{status-lent}
-use Rattle.units.proofs.Both.{take-first, drop-first, pad-lent, luma-lent}
+use Rattle.units.proofs.Openings.{pad-lent, none-unless}
+use Rattle.units.proofs.Both.{take-first, drop-first, luma-lent}
 
 -- ROWS FILLED IN FRONT of a rest that stays
 module _ (len first : ℕ) (pad : ℕ → List ℕ) (a b : List ℕ) (sized : (R : ℕ) → length (pad R) ≡ len) where
@@ -47,45 +41,13 @@ module _ (left top bottom : List ℕ) (filter : List ℤ) (lumaPlane lumaTop lum
   abbrev lent : Lent
   lent = chromaLent left top bottom filter lumaPlane lumaTop lumaBottom skip
 
-  -- THE LOOP OF AN ADVANCE
-  module _ (s : State) (p₀ : List ℕ) where
-    pub gone-start : Gone chroma lent s p₀ 0 (moved s (s .done + 0) (s .classes) (ring (s .rows) (s .indices) (s .next))) p₀
-    gone-start = rw (add-zero (s .done)) (Advances.gone-none chroma lent s p₀)
-
-    pub gone-row : (i : ℕ) {p q rows idx rows′ idx′ : List ℕ} {next next′ : ℕ} {f : List ℤ} →
-        Gone chroma lent s p₀ i (moved s (s .done + i) (s .classes) (ring rows idx next)) p → f ≡ filter →
-        Stepped (s .numbers) (s .done + i) (chromaLent left top bottom f lumaPlane lumaTop lumaBottom skip) p (ring rows idx next) q (ring rows′ idx′ next′) →
-        Gone chroma lent s p₀ (i + 1) (moved s (s .done + (i + 1)) (s .classes) (ring rows′ idx′ next′)) q
-    gone-row i {p = p} {q = q} {rows = rows} {idx = idx} {rows′ = rows′} {idx′ = idx′} {next = next} {next′ = next′} g e st =
-        let w : Stepped (s .numbers) (s .done + i) lent p (ring rows idx next) q (ring rows′ idx′ next′) = rw e at st in
-        let d : s .done + (i + 1) ≡ s .done + i + 1 = omega arith in
-        rw d (Advances.gone-more chroma lent s p₀ i g (w .turn (s .op) (s .classes)) (w .size))
-
-    pub served : (count n i pieces : ℕ) {p rows idx : List ℕ} {next : ℕ} →
-        chromaStatus s (chromaSizes (length p₀) (length left) (length top) (length bottom) (length filter) (length lumaPlane) (length lumaTop) (length lumaBottom) (length skip)) ≡ 0 →
-        n ≡ min count (s .numbers .h - s .done) → i ≡ n → pieces ≡ piecesOf skip (s .numbers .w / 4) (s .done) n →
-        Gone chroma lent s p₀ i (moved s (s .done + i) (s .classes) (ring rows idx next)) p →
-        Answered (record { status = 0; pieces = pieces; state = moved s (s .done + n) (s .classes) (ring rows idx next) }) p (answer (callOf chroma count lent) s p₀)
-    served count n i pieces {p = p} {rows = rows} {idx = idx} {next = next} z en ei ep g =
-        let w : Gone chroma lent s p₀ n (moved s (s .done + n) (s .classes) (ring rows idx next)) p = rw ei at g in
-        Advances.served chroma lent s p₀ count n n pieces (status-lent left top bottom filter lumaPlane lumaTop lumaBottom skip count s p₀ ∙ z) en refl ep w
-
-    pub declined : (count st : ℕ) →
-        st ≡ chromaStatus s (chromaSizes (length p₀) (length left) (length top) (length bottom) (length filter) (length lumaPlane) (length lumaTop) (length lumaBottom) (length skip)) →
-        (st ≡ 0 → ⊥) → Answered (record { status = st; pieces = 0; state = s }) p₀ (answer (callOf chroma count lent) s p₀)
-    declined count st e ne = Advances.declined chroma lent s p₀ count st (e ∙ sym (status-lent left top bottom filter lumaPlane lumaTop lumaBottom skip count s p₀)) ne
-
   -- AN OPENING, declined or not
   module _ (n : Numbers) (p : List ℕ) where
     abbrev status : ℕ
-    status = unitStatus chroma (givenOf n) (chromaSizes (length p) (length left) (length top) (length bottom) (length filter) (length lumaPlane) (length lumaTop) (length lumaBottom) (length skip))
-
-    unless-some : (st : ℕ) (s : State) → (st ≡ 0 → ⊥) → stateUnless st s ≡ noState
-    unless-some zero s ne = absurd (ne refl)
-    unless-some (suc st) s ne = refl
+    status = openStatus chroma n lent p
 
     pub begun-none : {st : ℕ} {s : State} → st ≡ status → (st ≡ 0 → ⊥) → s ≡ noState → Begun chroma (record { status = st; state = s }) n lent p
-    begun-none e ne z = record { status = e; state = z ∙ sym (unless-some status (openState chroma n lent p) (λ h. ne (e ∙ h))) }
+    begun-none e ne z = record { status = e; state = z ∙ none-unless status (openState chroma n lent p) (λ h. ne (e ∙ h)) }
 
     pub begun-first : {s : State} → status ≡ 0 → s ≡ openState chroma n lent p → Begun chroma (record { status = 0; state = s }) n lent p
     begun-first q z = record { status = sym q; state = z ∙ rw q }
@@ -127,6 +89,6 @@ module _ (left top bottom : List ℕ) (n : Numbers) (p : List ℕ) where
       d ∙
       ((λ k. t k ++ filledRows 140 first (lumaPadRow given (lumaRowsLent lumaPlane lumaTop lumaBottom)) (replicate 700 0) 4) ∙
       (λ k.
-      filledRows 76 first (λ R. pad-lent left top bottom filter lumaPlane lumaTop lumaBottom skip given p R k) (replicate 380 0) 4 ++
+      filledRows 76 first (λ R. pad-lent chroma (chromaLent left top bottom filter lumaPlane lumaTop lumaBottom skip) given p R k) (replicate 380 0) 4 ++
       filledRows 140 first (λ R. luma-lent left top bottom filter lumaPlane lumaTop lumaBottom skip given R k) (replicate 700 0) 4)) in
       λ k. record { op = 4; numbers = n; done = 0; next = 4; classes = replicate 16 0; indices = i k; rows = w k }

@@ -8,7 +8,7 @@ use native.Mathlib.Decide.{decLt, ℕ-discrete}
 use native.Mathlib.Omega.{arith}
 use lib.Dec.{ltb, leb}
 use lib.IntN.{ℤ}
-use lib.ListN.{length, getD, set, replicate, length-replicate}
+use lib.ListN.{length, getD, set, replicate}
 use lib.Seq.{sets, getD-set-other}
 use borrow.Author.Tests.{ltb-true, le-ltb, le-leb, lt-leb, eq-eqb, ne-eqb}
 use Rattle.definition.specs.Rows.{tab, rowBytes}
@@ -21,11 +21,11 @@ use Rattle.definition.specs.Rows.{orZero}
 use Rattle.laws.proofs.Lists.{sets-in, sets-behind, length-tab, getD-tab}
 use Rattle.laws.proofs.Passes.{pass-all}
 use Rattle.model.specs.Rows.{padRow, own}
-use Rattle.history.specs.Ring.{Ring, fetch, wrap, set-low-at}
+use Rattle.history.specs.Ring.{Ring, fetch, fetch-next-low, set-low-at}
 use Rattle.units.specs.Operations.{begins, withTenth, classAt}
 use Rattle.units.specs.Windows.{ring, Fetched}
 use Rattle.units.specs.Classed.{classLent, newest, TookClassed}
-use Rattle.units.proofs.Every.{every-at}
+use Rattle.refusals.proofs.Every.{every-at}
 
 pub bin-low : (v : ℤ) → bin v ≤ 7
 unfolding bin
@@ -136,17 +136,6 @@ tenth-low : (b : Bool) (row : List ℕ) (r : Ring) → Low r → Low (cond b (wi
 tenth-low true row r a = put-low (r .idx) 9 9 10 9 (omega arith) a
 tenth-low false row r a = a
 
-wrap-low : (n : ℕ) → n ≤ 8 → wrap 9 n ≤ 8
-wrap-low n h =
-    elim (ℕ-discrete (n + 1) 9) [
-      | yes e ↦ rw (eq-eqb (n + 1) 9 e) (omega arith)
-      | no ne ↦ rw (ne-eqb (n + 1) 9 ne) (omega arith)
-    ]
-
-fetch-next : (b : Bool) (row : List ℕ) (old : Ring) → old .next ≤ 8 → fetch 76 8 b row old .next ≤ 8
-fetch-next true row old h = wrap-low (old .next) h
-fetch-next false row old h = wrap-low (old .next) h
-
 tenth-next : (b : Bool) (row : List ℕ) (r : Ring) → r .next ≤ 8 → cond b (withTenth row r) r .next ≤ 8
 tenth-next true row r h = h
 tenth-next false row r h = h
@@ -160,4 +149,4 @@ module _ {op : Operation} {g : Given} {l : Lent} {p : List ℕ} {done : ℕ} {ol
   pub took-next : new .next ≤ 8
   took-next =
       rw (t .is)
-      (tenth-next (begins done) (padRow op g l p (done + 9)) (newest op g l p done old) (fetch-next (own op g (done + 8)) (padRow op g l p (done + 8)) old h))
+      (tenth-next (begins done) (padRow op g l p (done + 9)) (newest op g l p done old) (fetch-next-low rowBytes 8 (own op g (done + 8)) (padRow op g l p (done + 8)) old h))

@@ -7,7 +7,7 @@ use Rattle.definition.specs.Padding.{hasTop, hasBottom, topIntegrated, bottomIn
 use Rattle.definition.specs.Units.{Operation, luma, user, pretrained, chroma, border, savedAbove}
 use Rattle.definition.specs.Refusals.{topRows, bottomRows, planeRows}
 use Rattle.model.specs.Rows.{belowRows}
-use Rattle.units.specs.States.{operationOf}
+use Rattle.refusals.specs.Given.{operationOf}
 
 pub border-four : (op : ℕ) → 1 ≤ op → op ≤ 3 → border (operationOf op) ≡ 4
 border-four zero h k = absurd (omega arith)

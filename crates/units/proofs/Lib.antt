@@ -1,5 +1,3 @@
-pub mod Every
-pub mod Refused
 pub mod Edges
 pub mod Rings
 pub mod Sources
@@ -9,13 +7,14 @@ pub mod Runs
 pub mod Samples
 pub mod Copies
 pub mod Pieces
-pub mod Shapes
+pub mod Admissions
+pub mod Openings
 pub mod Turns
 pub mod Advances
 pub mod Classes
 pub mod Behind
 pub mod LumaSources
 pub mod ClassedTurns
-pub mod Shaped
+pub mod BothLie
 pub mod Both
 pub mod Chromas

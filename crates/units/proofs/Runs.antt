@@ -1,11 +1,10 @@
 -- A row's filter runs: none is refused, so each writes its samples. Assumes nothing.
 use mathlib.Core.Path.{_≡_, sym, ap, _∙_}
-use mathlib.Core.Bool.{Bool, true}
+use mathlib.Core.Bool.{true}
 use mathlib.Core.List.{List}
-use Prim.Native.Nat.{ℕ, zero, suc, _+_, _*_, _-_, _≤_, _<_}
+use Prim.Native.Nat.{ℕ, _+_, _*_, _-_, _≤_, _<_}
 use native.Mathlib.Omega.{arith}
 use native.Mathlib.Nat.{add-assoc, mul-comm, add-mul, mul-le-mul}
-use native.Mathlib.Numerals.{add-one}
 use lib.Dec.{leb}
 use lib.IntN.{ℤ}
 use lib.ListN.{length, getD}
@@ -13,7 +12,7 @@ use lib.Seq.{sets}
 use borrow.Author.Tests.{le-leb}
 use borrow.Rule.Slice.PartMut.{putMid, midOf, mid-len}
 use Rattle.definition.specs.Rows.{tab, unlessRefused}
-use Rattle.definition.specs.Refusals.{firstPass, indicesUpTo}
+use Rattle.definition.specs.Refusals.{indicesUpTo}
 use Rattle.laws.proofs.Passes.{pass-all}
 use Rattle.laws.proofs.Lists.{tab-cong}
 use Rattle.filter.specs.Runs.{runStatus, uvStatus, coefficients, lumaRun, pretrainedRun, chromaRun}

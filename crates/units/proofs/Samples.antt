@@ -1,11 +1,10 @@
 -- Samples under two filters whose numbers are the same where they are used, and a sample of a stretch under its block's set. Assumes nothing.
-use mathlib.Core.Path.{_≡_, refl, ap, ap₂}
+use mathlib.Core.Path.{_≡_, ap, ap₂}
 use mathlib.Core.List.{List}
-use Prim.Native.Nat.{ℕ, zero, suc, _+_, _*_, _/_, _≤_, _<_}
+use Prim.Native.Nat.{ℕ, _+_, _*_, _/_, _≤_, _<_}
 use native.Mathlib.Omega.{arith}
 use lib.IntN.{ℤ, pos, _+ℤ_, _-ℤ_, _*ℤ_}
 use lib.ListN.{getD}
-use Rattle.definition.specs.Numbers.{sumZ}
 use Rattle.definition.specs.Rows.{lumaFlat}
 use Rattle.definition.specs.Sample.{limit8, rounded, centre, pairOf, nsTap, pcTap, nsConfigY, pcConfig}
 use Rattle.definition.specs.Units.{user, pretrained, setOf}

@@ -1,11 +1,10 @@
 -- Chroma units as the code opens and advances them.
-use mathlib.Core.Path.{_≡_}
 use mathlib.Core.Bool.{cond, _&&_}
 use mathlib.Core.List.{List, []}
 use Prim.Native.Nat.{ℕ, _+_, _*_, _-_, _^_, _≤_, _<_}
 use lib.Dec.{eqb}
 use lib.IntN.{ℤ, pos}
-use Rattle.units.specs.declared.Numbers.{Numbers}
+use Rattle.refusals.specs.declared.Numbers.{Numbers}
 use Rattle.definition.specs.Padding.{hasLeft, hasRight, hasTop, topIntegrated, bottomIntegrated}
 use Rattle.definition.specs.Units.{Given, Lent}
 use Rattle.definition.specs.Refusals.{beside, bottomRows}

@@ -1,58 +1,41 @@
 -- DEMAND 3 FOR CHROMA UNITS: two rings side by side, the unit's own rows and the luma rows, which the state holds one behind the other. Assumes nothing.
 use mathlib.Core.Path.{_≡_, refl, sym, _∙_, ap}
-use mathlib.Core.Bool.{Bool, true, false, cond}
+use mathlib.Core.Bool.{cond}
 use mathlib.Core.List.{List, [], _∷_, _++_}
 use Prim.Native.Nat.{ℕ, zero, suc, _+_, _*_, _-_, _/_, _%_, _≤_, _<_, zero-le}
-use native.Mathlib.Nat.{mul-le-mul, mul-le-mul-right}
-use native.Mathlib.Decide.{decLt}
+use native.Mathlib.Nat.{mul-le-mul}
 use native.Mathlib.Omega.{arith}
-use lib.Dec.{ltb, leb}
 use lib.IntN.{ℤ, pos, natAbs, _+ℤ_, _*ℤ_}
-use lib.ListN.{length, getD, replicate, length-replicate, length-set, List·getD-append}
-use lib.Seq.{sets, length-sets, take-at, drop-at, getD-append-add}
-use borrow.Author.Tests.{le-ltb, le-leb, eq-eqb, ne-eqb}
+use lib.ListN.{length, getD, replicate, length-replicate, List·getD-append}
+use lib.Seq.{sets, take-at, drop-at, getD-append-add}
 use Rattle.definition.specs.Rows.{tab, rowBytes, lumaRowBytes, lumaRowsAt, rowOrigin, flatAround, chromaFlat, chromaLumaFlat}
 use Rattle.definition.specs.Blocks.{side, maskAt, masked}
 use Rattle.definition.specs.Sample.{limit8, chromaSample}
 use Rattle.definition.specs.Units.{chroma, Given, Lent, around, lumaAround, step, setOf, finalSample}
-use Rattle.definition.specs.Refusals.{sizesOf, unitStatus, indicesUpTo, planeRows}
+use Rattle.definition.specs.Refusals.{sizesOf}
 use Rattle.filter.specs.Runs.{coefficients}
 use Rattle.laws.proofs.Ints.{abs-mul, nonneg-add}
 use Rattle.laws.proofs.Lists.{tab-cong}
-use Rattle.laws.proofs.Passes.{pass-all}
-use Rattle.history.specs.Ring.{Ring, fetch, shift, window, wrap, Rule, RingAt, set-low, append-low, slid-length}
+use Rattle.history.specs.Ring.{Ring, fetch, fetch-sizes, fetch-low, shift, window, slots-wrap, Rule, RingAt, append-low, slid-length}
 use Rattle.history.specs.Memory.{Memory, ring, both}
 use Rattle.history.specs.Theorem.{Given as Shown, theorem}
 use Rattle.model.specs.Rows.{padRow, own, src, firstRow, pad-same, pad-size, ring-rule}
 use Rattle.model.specs.LumaRows.{lumaPadRow, luma-size, luma-first, luma-rule, luma-view, luma-centre, step-two}
 use Rattle.model.specs.Opening.{openRing, filled, filled-size, opens, opened-ring, src-starts}
-use Rattle.model.specs.Fine.{Fine, fine}
+use Rattle.model.specs.Fine.{Fine, fine, row-room}
 use Rattle.model.specs.Views.{chroma-agree, viewAround, flat-view, pad-view, place-high, place-split}
-use Rattle.units.specs.declared.Numbers.{Numbers}
+use Rattle.refusals.specs.declared.Numbers.{Numbers}
 use Rattle.units.specs.declared.State.{State}
-use Rattle.units.specs.States.{givenOf}
+use Rattle.refusals.specs.Given.{givenOf}
 use Rattle.units.specs.Cells.{chromaCell}
-use Rattle.units.specs.Operations.{units, statusOf, badState, tookOwn, tookLuma, chromaState, chromaPlane}
+use Rattle.units.specs.Operations.{units, statusOf, tookOwn, tookLuma, chromaState, chromaPlane}
 use Rattle.units.specs.Openings.{openState, openStatus, openOwn, openLuma}
-use Rattle.units.specs.Advances.{callOf}
+use Rattle.units.specs.Advances.{callOf, passed}
 use Rattle.units.specs.Wholes.{frameOf, Histories}
-use Rattle.units.specs.Windows.{fetch-sizes}
 
 -- the slot of row R of five
 abbrev pub slot : ℕ → ℕ
 slot R = R % 5
-
-wraps : (a : ℕ) → slot (a + 1) ≡ wrap 5 (slot a)
-wraps a =
-    elim (decLt (a % 5) 4) [
-      | yes lt ↦ rw (ne-eqb (a % 5 + 1) 5 (omega arith)) (omega arith)
-      | no ge ↦ rw (eq-eqb (a % 5 + 1) 5 (omega arith)) (omega arith)
-    ]
-
-fetch-low : (len m top : ℕ) (b : Bool) (row : List ℕ) (g : Ring) → g .next ≤ top → ((j : ℕ) → getD (g .idx) j 0 ≤ top) →
-    (j : ℕ) → getD (fetch len m b row g .idx) j 0 ≤ top
-fetch-low len m top true row g h a = set-low (g .idx) m (g .next) top h a
-fetch-low len m top false row g h a = set-low (g .idx) m (getD (g .idx) (m - 1) 0) top (a (m - 1)) a
 
 -- WHAT THE FILTER SEES, of two rings one behind the other
 behind : (xs ys : List ℕ) (n i : ℕ) → length xs ≡ n → getD (xs ++ ys) (n + i) 0 ≡ getD ys i 0
@@ -138,7 +121,7 @@ module _ (n : Numbers) (l : Lent) (p₀ : List ℕ) (f : openStatus chroma n l p
   two-tall = omega (arith, good .tall .low)
 
   pub own-rule : Rule rowBytes 4 4 (G .h) slot (src chroma G) (own chroma G) (padRow chroma G l p₀)
-  own-rule = ring-rule chroma G l p₀ tall 4 slot (omega arith) (λ a. omega arith) (λ a b h k. omega arith) wraps
+  own-rule = ring-rule chroma G l p₀ tall 4 slot (omega arith) (λ a. omega arith) (λ a b h k. omega arith) (λ a. slots-wrap 5 a (omega arith))
 
   pub apart₂ : 2 ≤ G .stride
   apart₂ = omega (arith, good .apart, good .wide .low)
@@ -167,7 +150,7 @@ module _ (n : Numbers) (l : Lent) (p₀ : List ℕ) (f : openStatus chroma n l p
   next-low k m a = rw (a .first .next) (omega arith)
 
   indices-low : (k : ℕ) (p : List ℕ) (m : Ring × Ring) → At k m → (j : ℕ) → getD (rings .take k p m .0 .idx) j 0 ≤ 4
-  indices-low k p m a = fetch-low rowBytes 4 4 (own chroma G (k + 4)) (padRow chroma G l p (k + 4)) (m .0) (next-low k m a) (a .first .holds .bounded)
+  indices-low k p m a = fetch-low rowBytes 4 (own chroma G (k + 4)) (padRow chroma G l p (k + 4)) (m .0) 4 (next-low k m a) (a .first .holds .bounded)
 
   abbrev pub mem : Memory (Ring × Ring) (List (List ℕ) × List (List ℕ)) (G .h) (λ k. G .off + k * G .stride) p₀
   mem =
@@ -224,23 +207,10 @@ module _ (n : Numbers) (l : Lent) (p₀ : List ℕ) (f : openStatus chroma n l p
         next = next i;
       })
 
-  row-room : (k : ℕ) → k < n .h → n .off + k * n .stride + n .w ≤ length p₀
-  row-room k h = omega (arith, good .plane .high, good .tall .low, mul-le-mul-right (n .stride) (within k h))
-    where
-      within : (k : ℕ) → k < n .h → k ≤ n .h + planeRows chroma (n .edges) - 1
-      within k h = omega arith
-
   -- the checks let a state pass that was reached
   admits : (c k : ℕ) (m : Ring × Ring) (p : List ℕ) → At k m → k ≤ n .h → length p ≡ length p₀ → statusOf (callOf chroma c l) (there k m) p ≡ 0
-  unfolding statusOf badState
   admits c k m p a h e =
-      let idx : List ℕ = m .0 .idx ++ m .1 .idx in
-      let b : (j : ℕ) → getD idx j 0 ≤ 4 = append-low (m .0 .idx) (m .1 .idx) 4 (a .first .holds .bounded) (a .second .holds .bounded) in
-      let i : indicesUpTo 4 (m .0 .idx ++ m .1 .idx) ≡ true = pass-all (λ j. leb j 4) idx 10 (λ j hj. le-leb (getD idx j 0) 4 (b j)) in
-      let d : ltb (n .h) k ≡ false = le-ltb (n .h) k h in
-      let t : ltb 4 (m .0 .next) ≡ false = le-ltb 4 (m .0 .next) (next-low k m a) in
-      let u : unitStatus chroma G (sizesOf chroma l p) ≡ 0 = rw e f in
-      rw (d, i, t) u
+      passed chroma c (there k m) l p refl h (append-low (m .0 .idx) (m .1 .idx) 4 (a .first .holds .bounded) (a .second .holds .bounded)) (next-low k m a) refl (rw e f)
 
   -- the definition's sample is the one over the padded rows at the opening
   final-seen : (y x : ℕ) → x < n .w →
@@ -278,7 +248,7 @@ module _ (n : Numbers) (l : Lent) (p₀ : List ℕ) (f : openStatus chroma n l p
   shown =
       record {
         apart = omega (arith, good .apart);
-        room = row-room;
+        room = row-room chroma G (sizesOf chroma l p₀) good;
         first = (openOwn n l p₀, openLuma n l);
         opens = refl;
         holds = record { first = opens-own; second = opens-luma; rows = open-sizes .0; indices = open-sizes .1 };

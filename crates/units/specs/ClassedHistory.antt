@@ -3,22 +3,20 @@
 use mathlib.Core.Path.{_≡_, refl, sym, _∙_, ap, subst}
 use mathlib.Core.Bool.{Bool, true, false, cond, not, _||_}
 use mathlib.Core.List.{List, [], _∷_}
-use mathlib.Core.Logic.{_≢_}
 use Prim.Native.Nat.{ℕ, zero, suc, _+_, _*_, _-_, _/_, _%_, _≤_, _<_, zero-le}
-use native.Mathlib.Nat.{mul-le-mul-right, zero-add}
+use native.Mathlib.Nat.{zero-add}
 use native.Mathlib.Decide.{decLt}
 use native.Mathlib.Omega.{arith}
-use lib.Dec.{eqb, ltb, leb}
+use lib.Dec.{eqb, ltb}
 use lib.IntN.{ℤ, pos, negsuc, natAbs, _+ℤ_, _-ℤ_, +ℤ-assoc}
 use lib.ListN.{length, getD, set, replicate, length-replicate, getD-replicate, length-set, length-append, List·getD-eq-default}
 use lib.Seq.{sets, length-sets, ext-getD, getD-set-same, getD-set-other}
-use borrow.Author.Tests.{le-ltb, lt-ltb, le-leb, eq-eqb, ne-eqb, eqb-true, eqb-false, ltb-true}
+use borrow.Author.Tests.{lt-ltb, eqb-true, eqb-false, ltb-true}
 use Rattle.definition.specs.Rows.{tab, rowBytes, rowOrigin, lumaFlat}
-use Rattle.definition.specs.Blocks.{side, masked, maskAt, piecesOf}
-use Rattle.definition.specs.ClassIndex.{classIndex}
+use Rattle.definition.specs.Blocks.{side, masked, maskAt}
 use Rattle.definition.specs.Units.{Operation, user, pretrained, border, Given, Lent, around, classOf, setOf, setSize, finalSample}
 use Rattle.laws.proofs.Lists.{tab-cong, length-tab, getD-tab, sets-in, sets-behind}
-use Rattle.history.specs.Ring.{Ring, fetch, fetch-same, shift, window, wrap, rowOf, row-same, row-other, set-low, Rule, Holds, RingAt, fetched, shifted, window-held, slid, slid-length, slid-low}
+use Rattle.history.specs.Ring.{Ring, fetch, fetch-same, fetch-sizes, fetch-next, shift, window, wrap, slots-wrap, rowOf, row-same, row-other, set-low, Rule, Holds, RingAt, fetched, shifted, window-held, slid-length}
 use Rattle.history.specs.Memory.{Memory, From}
 use lib.Dec.{T}
 use lib.Signed.{nonNeg}
@@ -26,23 +24,22 @@ use Rattle.laws.proofs.Ints.{sub-pos}
 use Rattle.model.specs.Rows.{padRow, own, src, pad-same, pad-size, ring-rule, firstRow}
 use Rattle.model.specs.Views.{Agree, luma-agree, pretrained-agree, viewAround, flat-view, row-view, pad-view, place-high}
 use Rattle.model.specs.Classes.{Eight, class-same}
-use Rattle.definition.specs.Refusals.{Sizes, sizesOf, every, badMapOf, badFilters, badKept, firstPass, indexLimit, nextLimit, indicesUpTo, planeRows, unitStatus}
+use Rattle.definition.specs.Refusals.{Sizes, sizesOf, every, badMapOf, badFilters, badKept, firstPass, indexLimit, nextLimit}
 use Rattle.laws.proofs.Passes.{both, pass-all}
-use Rattle.model.specs.Fine.{Fine, fine, not-both, not-not}
+use Rattle.model.specs.Fine.{Fine, fine, row-room, not-both, not-not}
 use Rattle.laws.proofs.Ints.{never}
 use Rattle.model.specs.Opening.{openRing, opens, filled, filled-size, openIndex}
 use Rattle.units.specs.Wholes.{frameOf, Histories}
 use Rattle.units.specs.Cells.{userCell, pretrainedCell}
 use Rattle.definition.specs.Sample.{limit8, lumaSample, pretrainedSample}
 use Rattle.history.specs.Theorem.{Given as Shown, theorem}
-use Rattle.units.specs.declared.Numbers.{Numbers}
+use Rattle.refusals.specs.declared.Numbers.{Numbers}
 use Rattle.units.specs.declared.State.{State}
-use Rattle.units.specs.States.{givenOf}
+use Rattle.refusals.specs.Given.{givenOf}
 use Rattle.units.specs.Openings.{openRings, openTen, openState, openStatus}
-use Rattle.units.specs.Operations.{numberOf, begins, withTenth, classAt, stepOf, classedState, userPlane, pretrainedPlane, painted, tookClassed, classesNow, took, Call, units, statusOf, badState}
-use Rattle.units.specs.Advances.{callOf}
-use Rattle.units.specs.LumaHistory.{slot, wraps}
-use Rattle.units.specs.Windows.{fetch-sizes}
+use Rattle.units.specs.Operations.{numberOf, begins, withTenth, classAt, stepOf, classedState, userPlane, pretrainedPlane, painted, tookClassed, classesNow, took, units, statusOf}
+use Rattle.units.specs.Advances.{callOf, passed}
+use Rattle.units.specs.LumaHistory.{slot}
 
 -- the tenth row disturbs no row of the window
 module _ (len top h : ℕ) (slot src : ℕ → ℕ) (own : ℕ → Bool) (pad : ℕ → List ℕ) (low : (a : ℕ) → slot a ≤ 8) (tops : 9 ≤ top) where
@@ -120,10 +117,6 @@ stored-low c bw f n h k j =
           ]
     ]
 
-fetch-next : (b : Bool) (row : List ℕ) (g : Ring) → fetch rowBytes 8 b row g .next ≡ wrap 9 (g .next)
-fetch-next true row g = refl
-fetch-next false row g = refl
-
 -- eight rows and columns from two before a block's first sample on, by the place that a tap of -2 .. 5 leads to
 eight-place : (e a : ℕ) → 2 ≤ e → (T (nonNeg (pos e +ℤ (pos a -ℤ pos 2)))) × (natAbs (pos e +ℤ (pos a -ℤ pos 2)) ≡ e + a - 2)
 eight-place e a h =
@@ -181,7 +174,7 @@ module _ (op : Operation) (four : border op ≡ 4) (G : Given) (l : Lent) (p₀ 
     pub next-is : ten k p (x .0) .next ≡ wrap 9 (x .0 .next)
     next-is =
         cond-ring (λ (r : Ring). r .next ≡ wrap 9 (x .0 .next)) (begins k) _ _
-        (λ b. fetch-next (own op G (k + 8)) (padRow op G l p (k + 8)) (x .0)) (λ b. fetch-next (own op G (k + 8)) (padRow op G l p (k + 8)) (x .0))
+        (λ b. fetch-next rowBytes 8 (own op G (k + 8)) (padRow op G l p (k + 8)) (x .0)) (λ b. fetch-next rowBytes 8 (own op G (k + 8)) (padRow op G l p (k + 8)) (x .0))
 
     -- AT THE START OF A BLOCK ROW the ten rows around it are there, and give the definition's classes
     module _ (b : begins k ≡ true) where
@@ -358,7 +351,7 @@ module _ (op : Operation) (four : border op ≡ 4) (ten₀ : (n : Numbers) (l : 
     pub rule₈ : Rule rowBytes 8 9 (G .h) slot (src op G) (own op G) (padRow op G l p₀)
     rule₈ =
         subst (λ (m : ℕ). Rule rowBytes m 9 (G .h) slot (src op G) (own op G) (padRow op G l p₀)) eights
-        (ring-rule op G l p₀ tall 9 slot (omega (arith, four)) (λ a. omega (arith, four)) (λ a b h k. omega (arith, four)) (λ a. rw eights (wraps a)))
+        (ring-rule op G l p₀ tall 9 slot (omega (arith, four)) (λ a. omega (arith, four)) (λ a b h k. omega (arith, four)) (λ a. rw eights (slots-wrap 9 a (omega arith))))
 
     pub low₈ : (a : ℕ) → slot a ≤ 8
     low₈ a = omega arith
@@ -388,23 +381,11 @@ module _ (op : Operation) (four : border op ≡ 4) (ten₀ : (n : Numbers) (l : 
     unfolding classesNow
     classes-are k m p = λ i. cond (begins k) (sets (m .1) 0 (tab (G .w / side) (classAt G l (ten-is k m p i) k))) (m .1)
 
-    row-room : (k : ℕ) → k < n .h → n .off + k * n .stride + n .w ≤ length p₀
-    row-room k h = omega (arith, good .plane .high, good .tall .low, mul-le-mul-right (n .stride) (within k h))
-      where
-        within : (k : ℕ) → k < n .h → k ≤ n .h + planeRows op (n .edges) - 1
-        within k h = omega arith
-
     admits : (c k : ℕ) (m : Ring × List ℕ) (p : List ℕ) → mem .At k m → k ≤ n .h → length p ≡ length p₀ → statusOf (callOf op c l) (there k m) p ≡ 0
-    unfolding statusOf badState
     admits c k m p a h e =
-        let i : indicesUpTo 9 (m .0 .idx) ≡ true = pass-all (λ j. leb j 9) (m .0 .idx) 10 (λ j hj. le-leb (getD (m .0 .idx) j 0) 9 (a .ring .holds .bounded j)) in
-        let d : ltb (n .h) k ≡ false = le-ltb (n .h) k h in
-        let t : ltb 8 (m .0 .next) ≡ false = le-ltb 8 (m .0 .next) (rw (a .ring .next) (omega arith)) in
-        let o : eqb (numberOf op) (numberOf op) ≡ true = eq-eqb (numberOf op) (numberOf op) refl in
         let b : badKept op (m .1) (length (l .filters)) ≡ false =
         keeps (m .1) (length (l .filters)) ∙ ap not (pass-all (λ j. ltb j sets′) (m .1) 16 (λ j hj. lt-ltb (getD (m .1) j 0) sets′ (a .kept .low j))) in
-        let u : unitStatus op G (sizesOf op l p) ≡ 0 = rw e f in
-        rw (o, d, limits .0, i, limits .1, t, b) u
+        passed op c (there k m) l p refl h (rw (limits .0) (a .ring .holds .bounded)) (rw (limits .1, a .ring .next) (omega arith)) b (rw e f)
 
     final-seen : (y x : ℕ) → x < n .w →
         finalSample G l p₀ op y x ≡ classedSeen l y (tab 9 (λ j. padRow op G l p₀ (y + j)), classesOf op four G l p₀ (G .w / side) sets′ y) (getD p₀ (n .off + y * n .stride + x) 0) x
@@ -466,7 +447,7 @@ module _ (op : Operation) (four : border op ≡ 4) (ten₀ : (n : Numbers) (l : 
     shown =
         record {
           apart = omega (arith, good .apart);
-          room = row-room;
+          room = row-room op G (sizesOf op l p₀) good;
           first = (openTen op n l p₀, replicate 16 0);
           opens = λ i. record { op = numberOf op; numbers = n; done = 0; next = ten₀ n l p₀ i .next; classes = replicate 16 0; indices = ten₀ n l p₀ i .idx; rows = ten₀ n l p₀ i .slots };
           holds =

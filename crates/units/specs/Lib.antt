@@ -1,5 +1,3 @@
-pub mod States
-pub mod Table
 pub mod Windows
 pub mod Cells
 pub mod Open

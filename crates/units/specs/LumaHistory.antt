@@ -1,53 +1,38 @@
 -- DEMAND 3 FOR LUMA UNITS: what the shared theorem asks of them, and so what holds after any list of advances and overwritings. Assumes nothing.
-use mathlib.Core.Path.{_≡_, refl, sym, _∙_, ap}
-use mathlib.Core.Bool.{Bool, true, false, cond, not, _||_}
+use mathlib.Core.Path.{_≡_, refl, sym, ap}
+use mathlib.Core.Bool.{cond}
 use mathlib.Core.List.{List, [], _∷_}
-use mathlib.Core.Logic.{_≢_}
-use Prim.Native.Nat.{ℕ, zero, suc, _+_, _*_, _-_, _/_, _%_, _≤_, _<_, min, zero-le}
-use native.Mathlib.Nat.{mul-le-mul-right, add-mul, zero-add}
-use native.Mathlib.Decide.{decLt}
+use Prim.Native.Nat.{ℕ, zero, suc, _+_, _*_, _-_, _/_, _%_, _≤_, _<_, zero-le}
 use native.Mathlib.Omega.{arith}
-use lib.Dec.{eqb, ltb, leb}
 use lib.IntN.{pos}
 use lib.ListN.{length, getD, replicate, length-replicate}
 use lib.Seq.{sets}
-use borrow.Author.Tests.{le-ltb, le-leb, eq-eqb, ne-eqb}
 use Rattle.definition.specs.Rows.{tab, rowBytes, rowOrigin, lumaFlat}
-use Rattle.definition.specs.Blocks.{side, maskAt, masked, piecesOf}
+use Rattle.definition.specs.Blocks.{side, maskAt, masked}
 use Rattle.definition.specs.Sample.{limit8, lumaSample}
-use Rattle.definition.specs.Units.{luma, Given, Lent, finalSample, around, setOf}
-use Rattle.definition.specs.Refusals.{sizesOf, unitStatus, indicesUpTo, planeRows}
+use Rattle.definition.specs.Units.{luma, Lent, finalSample, around, setOf}
+use Rattle.definition.specs.Refusals.{sizesOf}
 use Rattle.filter.specs.Runs.{coefficients}
 use Rattle.laws.proofs.Lists.{tab-cong}
-use Rattle.laws.proofs.Passes.{pass-all}
-use Rattle.history.specs.History.{Opened, World, Like, History, opened, _▷_, advance, write, run, last, Valid, After}
-use Rattle.history.specs.Ring.{Ring, fetch, shift, window, wrap}
-use Rattle.history.specs.Memory.{Memory, From, ring}
-use Rattle.history.specs.Operation.{Frame, unitOf}
+use Rattle.history.specs.Ring.{Ring, shift, window, slots-wrap}
+use Rattle.history.specs.Memory.{Memory, ring}
 use Rattle.history.specs.Theorem.{Given as Shown, theorem}
 use Rattle.model.specs.Rows.{padRow, own, src, pad-same, ring-rule}
 use Rattle.model.specs.Opening.{openRing, opens}
-use Rattle.model.specs.Fine.{Fine, fine}
-use Rattle.model.specs.Views.{Agree, luma-agree, viewAround, flat-view, pad-view, place-high}
-use Rattle.units.specs.declared.Numbers.{Numbers}
+use Rattle.model.specs.Fine.{Fine, fine, row-room}
+use Rattle.model.specs.Views.{luma-agree, viewAround, flat-view, pad-view, place-high}
+use Rattle.refusals.specs.declared.Numbers.{Numbers}
 use Rattle.units.specs.declared.State.{State}
-use Rattle.units.specs.States.{givenOf}
+use Rattle.refusals.specs.Given.{givenOf}
 use Rattle.units.specs.Cells.{lumaCell}
-use Rattle.units.specs.Operations.{Call, units, answer, statusOf, badState, took, lumaState, lumaPlane}
+use Rattle.units.specs.Operations.{units, statusOf, took, lumaState, lumaPlane}
 use Rattle.units.specs.Openings.{openState, openStatus}
-use Rattle.units.specs.Advances.{callOf}
+use Rattle.units.specs.Advances.{callOf, passed}
 use Rattle.units.specs.Wholes.{frameOf, Histories}
 
 -- the slot of row R of nine
 abbrev pub slot : ℕ → ℕ
 slot R = R % 9
-
-pub wraps : (a : ℕ) → slot (a + 1) ≡ wrap 9 (slot a)
-wraps a =
-    elim (decLt (a % 9) 8) [
-      | yes lt ↦ rw (ne-eqb (a % 9 + 1) 9 (omega arith)) (omega arith)
-      | no ge ↦ rw (eq-eqb (a % 9 + 1) 9 (omega arith)) (omega arith)
-    ]
 
 -- sample x of row y, from the list of the rows that the filter sees
 unfoldable pub lumaSeen : Lent → ℕ → List (List ℕ) → ℕ → ℕ → ℕ
@@ -79,27 +64,15 @@ module _ (n : Numbers) (l : Lent) (p₀ : List ℕ) (f : openStatus luma n l p�
   abbrev pub rows : Memory Ring (List (List ℕ)) (n .h) (λ k. n .off + k * n .stride) p₀
   rows =
       ring rowBytes 8 9 slot (src luma (givenOf n)) (own luma (givenOf n)) (padRow luma (givenOf n) l)
-      (ring-rule luma (givenOf n) l p₀ (omega (arith, good .tall .low)) 9 slot (omega arith) (λ a. omega arith) (λ a b h k. omega arith) wraps)
+      (ring-rule luma (givenOf n) l p₀ (omega (arith, good .tall .low)) 9 slot (omega arith) (λ a. omega arith) (λ a b h k. omega arith) (λ a. slots-wrap 9 a (omega arith)))
       (λ k p hk e o. pad-same luma (givenOf n) l p p₀ k (omega (arith, good .apart, good .wide .low)) e (k + 8) (omega arith) hk)
 
   abbrev pub there : ℕ → Ring → State
   there k m = record { op = 1; numbers = n; done = k; next = m .next; classes = replicate 16 0; indices = m .idx; rows = m .slots }
 
-  row-room : (k : ℕ) → k < n .h → n .off + k * n .stride + n .w ≤ length p₀
-  row-room k h = omega (arith, good .plane .high, good .tall .low, mul-le-mul-right (n .stride) (within k h))
-    where
-      within : (k : ℕ) → k < n .h → k ≤ n .h + planeRows luma (n .edges) - 1
-      within k h = omega arith
-
   -- the checks let a state pass that was reached
   admits : (c k : ℕ) (m : Ring) (p : List ℕ) → rows .At k m → k ≤ n .h → length p ≡ length p₀ → statusOf (callOf luma c l) (there k m) p ≡ 0
-  unfolding statusOf badState
-  admits c k m p a h e =
-      let i : indicesUpTo 9 (m .idx) ≡ true = pass-all (λ j. leb j 9) (m .idx) 10 (λ j hj. le-leb (getD (m .idx) j 0) 9 (a .holds .bounded j)) in
-      let d : ltb (n .h) k ≡ false = le-ltb (n .h) k h in
-      let t : ltb 8 (m .next) ≡ false = le-ltb 8 (m .next) (rw (a .next) (omega arith)) in
-      let u : unitStatus luma (givenOf n) (sizesOf luma l p) ≡ 0 = rw e f in
-      rw (d, i, t) u
+  admits c k m p a h e = passed luma c (there k m) l p refl h (a .holds .bounded) (rw (a .next) (omega arith)) refl (rw e f)
 
   -- the definition's sample is the one over the padded rows at the opening
   final-seen : (y x : ℕ) → x < n .w →
@@ -117,7 +90,7 @@ module _ (n : Numbers) (l : Lent) (p₀ : List ℕ) (f : openStatus luma n l p�
   luma-shown =
       record {
         apart = omega (arith, good .apart);
-        room = row-room;
+        room = row-room luma (givenOf n) (sizesOf luma l p₀) good;
         first = openRing luma (givenOf n) l p₀ (replicate 1080 0) (0 ∷ 0 ∷ []);
         opens = refl;
         holds =

@@ -4,7 +4,7 @@ use mathlib.Core.Logic.{_≢_}
 use mathlib.Core.List.{List, [], _∷_, _++_}
 use Prim.Native.Nat.{ℕ, zero, suc, _+_, _*_, _/_, _<_}
 use lib.ListN.{length, getD, replicate}
-use Rattle.definition.specs.Rows.{rowBytes, lumaRowBytes}
+use Rattle.definition.specs.Rows.{lumaRowBytes}
 use Rattle.definition.specs.Blocks.{side, piecesOf}
 use Rattle.definition.specs.Units.{Operation, luma, user, pretrained, chroma, Lent, finalSample}
 use Rattle.definition.specs.Refusals.{sizesOf, unitStatus}
@@ -12,11 +12,11 @@ use Rattle.history.specs.Ring.{Ring}
 use Rattle.model.specs.Rows.{firstRow}
 use Rattle.model.specs.Opening.{openRing, openedRing}
 use Rattle.model.specs.LumaRows.{lumaPadRow}
-use Rattle.units.specs.declared.Numbers.{Numbers}
+use Rattle.refusals.specs.declared.Numbers.{Numbers}
 use Rattle.units.specs.declared.State.{State}
 use Rattle.units.specs.declared.Opened.{Opened}
 use Rattle.units.specs.declared.Restored.{Restored}
-use Rattle.units.specs.States.{givenOf}
+use Rattle.refusals.specs.Given.{givenOf}
 use Rattle.units.specs.Windows.{ring}
 use Rattle.units.specs.Operations.{numberOf}
 

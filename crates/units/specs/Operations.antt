@@ -1,27 +1,26 @@
 -- An advance over any state: its status, and the step of one row for each kind of unit. What is left to believe here is that these steps are what
 -- the theorem of the histories speaks of; that theorem then says, of a unit that was opened, that the samples are the definition's.
 use mathlib.Core.Path.{_≡_}
-use mathlib.Core.Bool.{Bool, true, false, cond, not, _&&_, _||_}
-use mathlib.Core.List.{List, [], _∷_, _++_}
-use Prim.Native.Nat.{ℕ, zero, suc, _+_, _*_, _-_, _/_, _%_, _^_, _≤_, _<_}
+use mathlib.Core.Bool.{Bool, cond, not, _&&_, _||_}
+use mathlib.Core.List.{List, _++_}
+use Prim.Native.Nat.{ℕ, _+_, _*_, _/_, _%_}
 use lib.Dec.{eqb}
-use lib.IntN.{ℤ, pos, _-ℤ_}
-use lib.ListN.{length, getD, set, take, drop, replicate}
+use lib.ListN.{getD, set, take, drop}
 use lib.Seq.{sets}
 use Rattle.definition.specs.Rows.{tab, rowBytes, rowOrigin, lumaRowBytes, lumaRowsAt, lumaFlat}
 use Rattle.definition.specs.Blocks.{side, maskAt, piecesOf}
 use Rattle.definition.specs.ClassIndex.{classIndex}
 use Rattle.definition.specs.Units.{Operation, luma, user, pretrained, chroma, border, Given, Lent, step}
-use Rattle.definition.specs.Refusals.{Check, _⇒_, lowest, sizesOf, unitStatus, badShape, badKept}
+use Rattle.definition.specs.Refusals.{Sizes, sizesOf, unitStatus, badShape, badKept}
 use Rattle.history.specs.History.{World, Out}
 use Rattle.history.specs.Ring.{Ring, fetch, shift}
 use Rattle.history.specs.Operation.{Operation as Op, advanced}
 use Rattle.model.specs.Rows.{padRow, own}
 use Rattle.model.specs.LumaRows.{lumaPadRow}
-use Rattle.units.specs.declared.Numbers.{Numbers}
+use Rattle.refusals.specs.declared.Numbers.{Numbers}
 use Rattle.units.specs.declared.State.{State}
 use Rattle.units.specs.declared.Advanced.{Advanced}
-use Rattle.units.specs.States.{givenOf}
+use Rattle.refusals.specs.Given.{givenOf}
 use Rattle.units.specs.Windows.{ring}
 use Rattle.units.specs.Cells.{lumaCell, userCell, pretrainedCell, chromaCell}
 
@@ -44,26 +43,31 @@ badState op s filters =
     badShape op (not (eqb (s .op) (numberOf op))) (s .done) (s .numbers .h) (s .indices) (s .next) || badKept op (s .classes) filters
 
 -- 13 precedes all; the whole unit is checked again
-unfoldable pub statusOf : Call → State → List ℕ → ℕ
-statusOf c s p =
-    cond (badState (c .op) s (length (c .lent .filters))) 13 (unitStatus (c .op) (givenOf (s .numbers)) (sizesOf (c .op) (c .lent) p))
+unfoldable pub statusBy : Operation → State → Sizes → ℕ
+statusBy op s z = cond (badState op s (z .filters)) 13 (unitStatus op (givenOf (s .numbers)) z)
+
+abbrev pub statusOf : Call → State → List ℕ → ℕ
+statusOf c s p = statusBy (c .op) s (sizesOf (c .op) (c .lent) p)
 
 -- finished: of an operation, and all its rows done
 abbrev pub isFinished : State → Bool
 isFinished s = not (eqb (s .op) 0) && eqb (s .done) (s .numbers .h)
 
--- the state with other rows done, classes and ring
-abbrev pub moved : State → ℕ → List ℕ → Ring → State
-moved s done classes g =
+-- a state by its parts, and a state with other rows done, classes and ring
+abbrev pub stateAt : ℕ → Numbers → ℕ → List ℕ → Ring → State
+stateAt op g done classes r =
     record {
-      op = s .op;
-      numbers = s .numbers;
+      op = op;
+      numbers = g;
       done = done;
-      next = g .next;
+      next = r .next;
       classes = classes;
-      indices = g .idx;
-      rows = g .slots;
+      indices = r .idx;
+      rows = r .slots;
     }
+
+abbrev pub moved : State → ℕ → List ℕ → Ring → State
+moved s done classes r = stateAt (s .op) (s .numbers) done classes r
 
 abbrev pub ringOf : State → Ring
 ringOf s = ring (s .rows) (s .indices) (s .next)

@@ -4,19 +4,19 @@ use mathlib.Core.Path.{_≡_, refl, sym, _∙_}
 use mathlib.Core.Bool.{true}
 use mathlib.Core.Logic.{_≢_}
 use mathlib.Core.List.{List}
-use Prim.Native.Nat.{ℕ, _+_, _*_, _-_, _/_, min}
+use Prim.Native.Nat.{ℕ, _+_, _-_, _/_, min}
 use native.Mathlib.Omega.{arith}
 use borrow.Author.Tests.{le-leb}
 use Rattle.definition.specs.Blocks.{side, piecesOf}
 use Rattle.definition.specs.Units.{Operation, Lent, finalSample}
 use Rattle.history.specs.History.{Opened, History, opened, _▷_, advance, last, Valid, After}
 use Rattle.history.specs.Operation.{Frame, unitOf}
-use Rattle.units.specs.declared.Numbers.{Numbers}
+use Rattle.refusals.specs.declared.Numbers.{Numbers}
 use Rattle.units.specs.declared.State.{State}
 use Rattle.units.specs.declared.Opened.{Opened as Handed}
 use Rattle.units.specs.declared.Advanced.{Advanced}
 use Rattle.units.specs.declared.Restored.{Restored}
-use Rattle.units.specs.States.{givenOf}
+use Rattle.refusals.specs.Given.{givenOf}
 use Rattle.units.specs.Operations.{Call, units, answer, Answered}
 use Rattle.units.specs.Openings.{openState, openStatus, Begun, Whole}
 use Rattle.units.specs.Advances.{callOf}

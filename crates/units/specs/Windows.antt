@@ -1,11 +1,9 @@
 -- What the private functions over rows ask: that all they pad from lies inside.
-use mathlib.Core.Path.{_≡_, refl}
-use mathlib.Core.Bool.{Bool, true, false}
+use mathlib.Core.Path.{_≡_}
+use mathlib.Core.Bool.{true}
 use mathlib.Core.List.{List, []}
-use Prim.Native.Nat.{ℕ, _+_, _-_, _*_, _≤_, _<_}
+use Prim.Native.Nat.{ℕ, _+_, _*_, _≤_, _<_}
 use lib.IntN.{pos}
-use lib.ListN.{length, getD, length-set}
-use lib.Seq.{length-sets}
 use Rattle.definition.specs.Padding.{hasLeft, hasRight}
 use Rattle.definition.specs.Units.{Operation, border, Given, Lent}
 use Rattle.definition.specs.Refusals.{beside, topRows, bottomRows, planeRows}
@@ -49,9 +47,3 @@ ring rows indices next = record { slots = rows; idx = indices; next = next }
 -- the ring with the newest row of the window, row done + e of the unit
 pub record Fetched (op : Operation) (g : Given) (l : Lent) (plane : List ℕ) (done : ℕ) (old new : Ring) : Type 0 where
   pub is : new ≡ fetch rowBytes (border op + border op) (own op g (done + (border op + border op))) (padRow op g l plane (done + (border op + border op))) old
-
--- the newest row changes no length, and no index beyond a bound that the next slot keeps
-pub fetch-sizes : (len m : ℕ) (b : Bool) (row : List ℕ) (g : Ring) →
-    (length (fetch len m b row g .slots) ≡ length (g .slots)) × (length (fetch len m b row g .idx) ≡ length (g .idx))
-fetch-sizes len m true row g = (length-sets (g .slots) (g .next * len) row, length-set (g .idx) m (g .next))
-fetch-sizes len m false row g = (refl, length-set (g .idx) m (getD (g .idx) (m - 1) 0))

@@ -4,87 +4,51 @@ ghost use mathlib.Core.List.{List, [], _∷_, _++_};
 ghost use Prim.Native.Nat.{ℕ, _+_, _^_, _≤_, _<_};
 ghost use lib.ListN.{length, getD, take, drop};
 ghost use lib.IntN.{ℤ};
-ghost use mathlib.Core.Bool.{not};
-ghost use lib.Dec.{eqb};
 ghost use Rattle.definition.specs.Rows.{tab};
-ghost use Rattle.definition.specs.Refusals.{unitStatus, badShape};
+ghost use Rattle.definition.specs.Refusals.{sizesOf};
 ghost use Rattle.definition.specs.Units.{chroma};
 ghost use Rattle.history.specs.Ring.{slid};
 ghost use Rattle.model.specs.Opening.{openIndex};
-ghost use Rattle.units.specs.States.{givenOf};
+ghost use Rattle.refusals.specs.Given.{givenOf, sizesGiven};
 ghost use Rattle.units.specs.Windows.{ring};
 ghost use Rattle.units.specs.Operations.{answer, Answered};
 ghost use Rattle.units.specs.Openings as Openings;
-ghost use Rattle.units.specs.Advances.{callOf};
+ghost use Rattle.units.specs.Advances.{callOf, Admitted};
 ghost use Rattle.units.specs.Chroma.{chromaLent, lumaRowsLent, LumaLie};
-ghost use Rattle.units.specs.ChromaRows.{chromaSizes, chromaStatus, Admitted, BothLie, LumaFetched, Stepped};
+ghost use Rattle.units.specs.ChromaRows.{BothLie, LumaFetched, ChromaStepped};
 use crate::Advanced;
-use crate::Numbers;
 use crate::Opened;
 use crate::State;
-use crate::refusals::Sizes;
+use refusals::Numbers;
+use refusals::Sizes;
 
-// The table for an opening, by lengths. There is no map.
-pub fn unit_status(
-    g: Numbers,
-    plane: usize,
-    left: usize,
-    top: usize,
-    bottom: usize,
-    filters: usize,
-    luma_plane: usize,
-    luma_top: usize,
-    luma_bottom: usize,
-    skip: usize,
-) -> u8
-    ensures { λ r. ⌜ r ≡ unitStatus chroma (givenOf g) (chromaSizes plane left top bottom filters «luma_plane» «luma_top» «luma_bottom» skip) ⌝ }
+// The lengths of all that is lent. There is no map.
+pub fn sizes<'a>(
+    p: &[u8],
+    left: &[u8],
+    top: &[u8],
+    bottom: &[u8],
+    filter: &[i8],
+    luma: &'a [u8],
+    luma_top: &'a [u8],
+    luma_bottom: &'a [u8],
+    skip: &[u16],
+) -> Sizes
+    ensures { λ r. ⌜ sizesGiven r ≡ sizesOf chroma (chromaLent (now (left .entry)) (now (top .entry)) (now (bottom .entry)) (now (filter .entry)) (now (luma .entry)) (now («luma_top» .entry)) (now («luma_bottom» .entry)) (now (skip .entry))) (now (p .entry)) ⌝ }
 {
-    let z = Sizes {
-        plane,
-        left,
-        top,
-        bottom,
-        luma_plane,
-        luma_top,
-        luma_bottom,
-        skip,
+    Sizes {
+        plane: p.len(),
+        left: left.len(),
+        top: top.len(),
+        bottom: bottom.len(),
+        luma_plane: luma.len(),
+        luma_top: luma_top.len(),
+        luma_bottom: luma_bottom.len(),
+        skip: skip.len(),
         noskip: 0,
-        filters,
+        filters: filter.len(),
         bad_map: true,
-    };
-    crate::refusals::unit_status(4, g, z)
-}
-
-// The table for an advance: the state's shape comes first.
-pub fn status(
-    s: State,
-    plane: usize,
-    left: usize,
-    top: usize,
-    bottom: usize,
-    filters: usize,
-    luma_plane: usize,
-    luma_top: usize,
-    luma_bottom: usize,
-    skip: usize,
-) -> u8
-    ensures { λ r. ⌜ r ≡ chromaStatus s (chromaSizes plane left top bottom filters «luma_plane» «luma_top» «luma_bottom» skip) ⌝ }
-{
-    if crate::refusals::bad_shape(4, 4, 4, s) {
-        return 13;
     }
-    unit_status(
-        s.numbers,
-        plane,
-        left,
-        top,
-        bottom,
-        filters,
-        luma_plane,
-        luma_top,
-        luma_bottom,
-        skip,
-    )
 }
 
 // The filter's 18 numbers, by value.
@@ -173,7 +137,7 @@ fn row<'a>(
     requires { ⌜ BothLie (givenOf g) (length (now p)) (length (now left)) (length (now top)) (length (now bottom)) (length (now luma)) (length (now «luma_top»)) (length (now «luma_bottom»)) ⌝ }
     requires { ⌜ (done < g .h) × (next ≤ 4) × (done < length (now skip)) ⌝ }
     requires { ⌜ (length (now rows) ≡ 1080) × (length (now indices) ≡ 10) × ((j : ℕ) → getD (now indices) j 0 ≤ 4) ⌝ }
-    ensures { λ r. ⌜ Stepped g done (chromaLent (now (left .entry)) (now (top .entry)) (now (bottom .entry)) (now (filter .entry)) (now (luma .entry)) (now («luma_top» .entry)) (now («luma_bottom» .entry)) (now (skip .entry))) (now (p .entry)) (ring (now (rows .entry)) (now (indices .entry)) next) (now (p .exit)) (ring (now (rows .exit)) (now (indices .exit)) r) ⌝ }
+    ensures { λ r. ⌜ ChromaStepped g done (chromaLent (now (left .entry)) (now (top .entry)) (now (bottom .entry)) (now (filter .entry)) (now (luma .entry)) (now («luma_top» .entry)) (now («luma_bottom» .entry)) (now (skip .entry))) (now (p .entry)) (ring (now (rows .entry)) (now (indices .entry)) next) (now (p .exit)) (ring (now (rows .exit)) (now (indices .exit)) r) ⌝ }
 {
     let turned = crate::rows::fetch_row(4, g, done, p, left, top, bottom, rows, indices, next);
     fetch_luma_row(g, done, luma, luma_top, luma_bottom, rows, indices, next);
@@ -199,7 +163,7 @@ pub fn advanced<'a>(
     luma_bottom: &'a [u8],
     skip: &[u16],
 ) -> Advanced
-    requires { ⌜ Admitted s (length (now p)) (length (now left)) (length (now top)) (length (now bottom)) (length (now filter)) (length (now luma)) (length (now «luma_top»)) (length (now «luma_bottom»)) (length (now skip)) ⌝ }
+    requires { ⌜ Admitted chroma count s (chromaLent (now left) (now top) (now bottom) (now filter) (now luma) (now «luma_top») (now «luma_bottom») (now skip)) (now p) ⌝ }
     ensures { λ r. ⌜ Answered r (now (p .exit)) (answer (callOf chroma count (chromaLent (now (left .entry)) (now (top .entry)) (now (bottom .entry)) (now (filter .entry)) (now (luma .entry)) (now («luma_top» .entry)) (now («luma_bottom» .entry)) (now (skip .entry)))) s (now (p .entry))) ⌝ }
 {
     let g = s.numbers;
@@ -301,18 +265,18 @@ pub fn open<'a>(
 ) -> Opened
     ensures { λ r. ⌜ Openings.Begun chroma r g (chromaLent (now (left .entry)) (now (top .entry)) (now (bottom .entry)) (now (filter .entry)) (now (luma .entry)) (now («luma_top» .entry)) (now («luma_bottom» .entry)) (now (skip .entry))) (now (p .entry)) ⌝ }
 {
-    let status = unit_status(
-        g,
-        p.len(),
-        left.len(),
-        top.len(),
-        bottom.len(),
-        filter.len(),
-        luma.len(),
-        luma_top.len(),
-        luma_bottom.len(),
-        skip.len(),
+    let z = sizes(
+        p,
+        left,
+        top,
+        bottom,
+        filter,
+        luma,
+        luma_top,
+        luma_bottom,
+        skip,
     );
+    let status = refusals::unit_status(4, g, z);
     if status != 0 {
         return Opened {
             status,

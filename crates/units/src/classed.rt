@@ -1,41 +1,27 @@
 // Classed units: the classes of a block row, and what an advance is made of.
 ghost use mathlib.Core.Path.{_≡_};
-ghost use mathlib.Core.Bool.{not, true};
+ghost use mathlib.Core.Bool.{true};
+ghost use mathlib.Core.List.{List};
+ghost use lib.IntN.{ℤ};
 ghost use Prim.Native.Nat.{ℕ, _+_, _*_, _-_, _/_, _≤_, _<_};
-ghost use lib.Dec.{eqb, ltb};
+ghost use lib.Dec.{ltb};
 ghost use lib.ListN.{length, getD};
 ghost use lib.Seq.{sets};
 ghost use Rattle.definition.specs.Rows.{tab};
 ghost use Rattle.definition.specs.Units.{luma, user, pretrained, setSize};
-ghost use Rattle.definition.specs.Refusals.{unitStatus, badShape, firstPass, every};
+ghost use Rattle.definition.specs.Refusals.{sizesOf, every};
 ghost use Rattle.definition.specs.ClassIndex.{skipFactor, skipSum, indexOf};
 ghost use Rattle.model.specs.Fine.{Sized};
-ghost use Rattle.units.specs.States.{operationOf, givenOf};
+ghost use Rattle.refusals.specs.Given.{operationOf, givenOf, sizesGiven};
 ghost use Rattle.units.specs.Windows.{rowsLent, RowsLie, ring};
 ghost use Rattle.units.specs.Operations.{answer, Answered, classAt};
-ghost use Rattle.units.specs.Advances.{callOf};
+ghost use Rattle.units.specs.Advances.{callOf, Admitted};
 ghost use Rattle.units.specs.Classed.{classLent, classedLent, TookClassed};
-ghost use Rattle.units.specs.ClassedRows.{classedSizes, statusBy, classesAt, Fit, Sound, Admitted, Stepped};
+ghost use Rattle.units.specs.ClassedRows.{classesAt, Fit, Sound, ClassedStepped};
 use crate::Advanced;
-use crate::Numbers;
 use crate::State;
-use crate::refusals::Sizes;
-
-// Whether a kept class is past the filters: `numbers` of them, `size` to a set.
-pub fn bad_kept(classes: &[u8; 16], numbers: usize, size: usize) -> bool
-    requires { ⌜ 0 < size ⌝ }
-    ensures { λ r. ⌜ r ≡ not (firstPass (λ c. ltb c (numbers / size)) 16 (now (classes .entry))) ⌝ }
-{
-    let n = numbers / size;
-    let mut k = 0;
-    while k < 16 {
-        if n <= wide(classes[k]) {
-            return true;
-        }
-        k += 1;
-    }
-    false
-}
+use refusals::Numbers;
+use refusals::Sizes;
 
 fn wide(x: u8) -> usize
     ensures { λ r. ⌜ r ≡ x ⌝ }
@@ -147,76 +133,34 @@ pub fn fetch_rows(
     r
 }
 
-// The table for an opening.
-pub fn unit_status(
+// The lengths of all that is lent, and whether the map is wrong; `filters` numbers of filters.
+pub fn sizes(
     op: usize,
-    g: Numbers,
-    plane: usize,
-    left: usize,
-    top: usize,
-    bottom: usize,
+    p: &[u8],
+    left: &[u8],
+    top: &[u8],
+    bottom: &[u8],
     filters: usize,
     map: &[u8],
     subclass: &[u8],
-    noskip: usize,
-    skip: usize,
-) -> u8
-    ensures { λ r. ⌜ r ≡ unitStatus (operationOf op) (givenOf g) (classedSizes (operationOf op) plane left top bottom filters (now (map .entry)) (now (subclass .entry)) noskip skip) ⌝ }
+    noskip: &[u16],
+    skip: &[u16],
+) -> Sizes
+    ensures { λ r. ⌜ ((f : List ℤ) (q : ℤ) → length f ≡ filters → sizesGiven r ≡ sizesOf (operationOf op) (classedLent (now (left .entry)) (now (top .entry)) (now (bottom .entry)) f (now (map .entry)) (now (subclass .entry)) (now (noskip .entry)) (now (skip .entry)) q) (now (p .entry))) ⌝ }
 {
-    let z = Sizes {
-        plane,
-        left,
-        top,
-        bottom,
+    Sizes {
+        plane: p.len(),
+        left: left.len(),
+        top: top.len(),
+        bottom: bottom.len(),
         luma_plane: 0,
         luma_top: 0,
         luma_bottom: 0,
-        skip,
-        noskip,
+        skip: skip.len(),
+        noskip: noskip.len(),
         filters,
-        bad_map: crate::refusals::bad_map(op, map, subclass, filters),
-    };
-    crate::refusals::unit_status(op, g, z)
-}
-
-// The table for an advance: the state's shape and the kept classes come first.
-pub fn status(
-    op: usize,
-    s: State,
-    plane: usize,
-    left: usize,
-    top: usize,
-    bottom: usize,
-    filters: usize,
-    map: &[u8],
-    subclass: &[u8],
-    noskip: usize,
-    skip: usize,
-) -> u8
-    requires { ⌜ (2 ≤ op) × (op ≤ 3) ⌝ }
-    ensures { λ r. ⌜ r ≡ statusBy (operationOf op) s (classedSizes (operationOf op) plane left top bottom filters (now (map .entry)) (now (subclass .entry)) noskip skip) ⌝ }
-{
-    if crate::refusals::bad_shape(op, 9, 8, s) {
-        return 13;
+        bad_map: refusals::bad_map(op, map, subclass, filters),
     }
-    let classes = s.classes;
-    let size = crate::refusals::set_size(op);
-    if bad_kept(&classes, filters, size) {
-        return 13;
-    }
-    unit_status(
-        op,
-        s.numbers,
-        plane,
-        left,
-        top,
-        bottom,
-        filters,
-        map,
-        subclass,
-        noskip,
-        skip,
-    )
 }
 
 // What a row leaves for the next one, besides the rows and their indices.
@@ -322,7 +266,7 @@ fn row_n(
 ) -> Turn
     requires { ⌜ Fit user g (classedLent (now left) (now top) (now bottom) (now filters) (now map) (now subclass) (now noskip) (now skip) «base_q») (length (now p)) ⌝ }
     requires { ⌜ (done < g .h) × Sound (length (now filters) / setSize user) classes (now indices) next ⌝ }
-    ensures { λ r. ⌜ Stepped user g done (classedLent (now (left .entry)) (now (top .entry)) (now (bottom .entry)) (now (filters .entry)) (now (map .entry)) (now (subclass .entry)) (now (noskip .entry)) (now (skip .entry)) «base_q») (now (p .entry)) classes (ring (now (rows .entry)) (now (indices .entry)) next) (now (p .exit)) (r .classes) (ring (now (rows .exit)) (now (indices .exit)) (r .next)) ⌝ }
+    ensures { λ r. ⌜ ClassedStepped user g done (classedLent (now (left .entry)) (now (top .entry)) (now (bottom .entry)) (now (filters .entry)) (now (map .entry)) (now (subclass .entry)) (now (noskip .entry)) (now (skip .entry)) «base_q») (now (p .entry)) classes (ring (now (rows .entry)) (now (indices .entry)) next) (now (p .exit)) (r .classes) (ring (now (rows .exit)) (now (indices .exit)) (r .next)) ⌝ }
 {
     let turn = taken(
         2,
@@ -435,7 +379,7 @@ fn row_p(
 ) -> Turn
     requires { ⌜ Fit pretrained g (classedLent (now left) (now top) (now bottom) (now filters) (now map) (now subclass) (now noskip) (now skip) «base_q») (length (now p)) ⌝ }
     requires { ⌜ (done < g .h) × Sound (length (now filters) / setSize pretrained) classes (now indices) next ⌝ }
-    ensures { λ r. ⌜ Stepped pretrained g done (classedLent (now (left .entry)) (now (top .entry)) (now (bottom .entry)) (now (filters .entry)) (now (map .entry)) (now (subclass .entry)) (now (noskip .entry)) (now (skip .entry)) «base_q») (now (p .entry)) classes (ring (now (rows .entry)) (now (indices .entry)) next) (now (p .exit)) (r .classes) (ring (now (rows .exit)) (now (indices .exit)) (r .next)) ⌝ }
+    ensures { λ r. ⌜ ClassedStepped pretrained g done (classedLent (now (left .entry)) (now (top .entry)) (now (bottom .entry)) (now (filters .entry)) (now (map .entry)) (now (subclass .entry)) (now (noskip .entry)) (now (skip .entry)) «base_q») (now (p .entry)) classes (ring (now (rows .entry)) (now (indices .entry)) next) (now (p .exit)) (r .classes) (ring (now (rows .exit)) (now (indices .exit)) (r .next)) ⌝ }
 {
     let turn = taken(
         3,

@@ -1,7 +1,9 @@
 // Units that can be broken off between rows: open hands out a state, advance takes it with a row count and hands it back.
 ghost use mathlib.Core.Path.{_≡_};
-ghost use Rattle.units.specs.Operations.{answer, Answered, isFinished};
+ghost use Rattle.units.specs.Operations.{answer, Answered, isFinished, statusBy};
 ghost use Rattle.definition.specs.Units.{luma, user, pretrained, chroma};
+ghost use Prim.Native.Nat.{_≤_};
+ghost use Rattle.refusals.specs.Given.{operationOf, sizesGiven};
 ghost use Rattle.units.specs.Openings.{Begun, Whole};
 ghost use Rattle.units.specs.Advances.{callOf};
 ghost use Rattle.units.specs.Chroma.{chromaLent, numbersC};
@@ -13,28 +15,11 @@ mod classed;
 mod luma;
 mod luma_rows;
 mod opening;
-mod refusals;
 mod restore;
 mod rows;
 
-// The numbers that a unit is opened with; what its operation does not use is 0.
-#[repr(C)]
-pub struct Numbers {
-    pub w: usize,
-    pub h: usize,
-    pub edges: usize,
-    pub stride: usize,
-    pub luma_stride: usize,
-    pub off: usize,
-    pub top_off: usize,
-    pub bottom_off: usize,
-    pub luma_off: usize,
-    pub luma_top_off: usize,
-    pub luma_bottom_off: usize,
-    pub ss_hor: usize,
-    pub ss_ver: usize,
-    pub kind: usize,
-}
+use refusals::Numbers;
+use refusals::Sizes;
 
 // A unit between two advances. op: 0 none, 1 y, 2 n (user sets), 3 p (pretrained), 4 c.
 // rows: ten padded rows of 76 bytes; of a chroma unit five of 76 and, behind them, five luma rows of 140.
@@ -86,15 +71,8 @@ impl State {
     ) -> Advanced
         ensures { λ r. ⌜ Answered r (now (p .exit)) (answer (callOf luma count (lumaLent (now (left .entry)) (now (lpf .entry)) (now («lpf_bottom» .entry)) (now (filter .entry)) (now (skip .entry)))) self (now (p .entry))) ⌝ }
     {
-        let status = luma::status(
-            self,
-            p.len(),
-            left.len(),
-            lpf.len(),
-            lpf_bottom.len(),
-            filter.len(),
-            skip.len(),
-        );
+        let z = luma::sizes(p, left, lpf, lpf_bottom, filter, skip);
+        let status = advance_status(1, self, z);
         if status != 0 {
             return Advanced {
                 status,
@@ -122,19 +100,19 @@ impl State {
     ) -> Advanced
         ensures { λ r. ⌜ Answered r (now (p .exit)) (answer (callOf user count (classedLent (now (left .entry)) (now (lpf .entry)) (now («lpf_bottom» .entry)) (now (filters .entry)) (now (map .entry)) (now (subclass .entry)) (now (noskip .entry)) (now (skip .entry)) «base_q»)) self (now (p .entry))) ⌝ }
     {
-        let status = classed::status(
+        let z = classed::sizes(
             2,
-            self,
-            p.len(),
-            left.len(),
-            lpf.len(),
-            lpf_bottom.len(),
+            p,
+            left,
+            lpf,
+            lpf_bottom,
             filters.len(),
             map,
             subclass,
-            noskip.len(),
-            skip.len(),
+            noskip,
+            skip,
         );
+        let status = advance_status(2, self, z);
         if status != 0 {
             return Advanced {
                 status,
@@ -175,19 +153,19 @@ impl State {
     ) -> Advanced
         ensures { λ r. ⌜ Answered r (now (p .exit)) (answer (callOf pretrained count (classedLent (now (left .entry)) (now (lpf .entry)) (now («lpf_bottom» .entry)) (now (filters .entry)) (now (map .entry)) (now (subclass .entry)) (now (noskip .entry)) (now (skip .entry)) «base_q»)) self (now (p .entry))) ⌝ }
     {
-        let status = classed::status(
+        let z = classed::sizes(
             3,
-            self,
-            p.len(),
-            left.len(),
-            lpf.len(),
-            lpf_bottom.len(),
+            p,
+            left,
+            lpf,
+            lpf_bottom,
             filters.len(),
             map,
             subclass,
-            noskip.len(),
-            skip.len(),
+            noskip,
+            skip,
         );
+        let status = advance_status(3, self, z);
         if status != 0 {
             return Advanced {
                 status,
@@ -227,18 +205,18 @@ impl State {
     ) -> Advanced
         ensures { λ r. ⌜ Answered r (now (p .exit)) (answer (callOf chroma count (chromaLent (now (left .entry)) (now (lpf .entry)) (now («lpf_bottom» .entry)) (now (filter .entry)) (now (luma .entry)) (now («luma_top» .entry)) (now («luma_bottom» .entry)) (now (skip .entry)))) self (now (p .entry))) ⌝ }
     {
-        let status = chroma::status(
-            self,
-            p.len(),
-            left.len(),
-            lpf.len(),
-            lpf_bottom.len(),
-            filter.len(),
-            luma.len(),
-            luma_top.len(),
-            luma_bottom.len(),
-            skip.len(),
+        let z = chroma::sizes(
+            p,
+            left,
+            lpf,
+            lpf_bottom,
+            filter,
+            luma,
+            luma_top,
+            luma_bottom,
+            skip,
         );
+        let status = advance_status(4, self, z);
         if status != 0 {
             return Advanced {
                 status,
@@ -262,6 +240,24 @@ impl State {
     }
 }
 
+// The table for an advance: the state's shape and the kept classes come first.
+fn advance_status(op: usize, s: State, z: Sizes) -> u8
+    requires { ⌜ (1 ≤ op) × (op ≤ 4) ⌝ }
+    ensures { λ r. ⌜ r ≡ statusBy (operationOf op) s (sizesGiven z) ⌝ }
+{
+    let indices = s.indices;
+    let classes = s.classes;
+    let shape = refusals::bad_shape(op, s.op != op, s.done, s.numbers.h, &indices, s.next);
+    let kept = refusals::bad_kept(op, &classes, z.filters);
+    if shape {
+        return 13;
+    }
+    if kept {
+        return 13;
+    }
+    refusals::unit_status(op, s.numbers, z)
+}
+
 // A luma unit, opened over a plane that is not written.
 pub fn open_y(
     p: &[u8],
@@ -281,15 +277,8 @@ pub fn open_y(
     ensures { λ r. ⌜ Begun luma r (numbersY w h edges stride «p_off» «lpf_off» «lpf_bottom_off») (lumaLent (now (left .entry)) (now (lpf .entry)) (now («lpf_bottom» .entry)) (now (filter .entry)) (now (skip .entry))) (now (p .entry)) ⌝ }
 {
     let g = luma::numbers(w, h, edges, stride, p_off, lpf_off, lpf_bottom_off);
-    let status = luma::unit_status(
-        g,
-        p.len(),
-        left.len(),
-        lpf.len(),
-        lpf_bottom.len(),
-        filter.len(),
-        skip.len(),
-    );
+    let z = luma::sizes(p, left, lpf, lpf_bottom, filter, skip);
+    let status = refusals::unit_status(1, g, z);
     opening::open(1, g, status, p, left, lpf, lpf_bottom)
 }
 
@@ -369,19 +358,19 @@ pub fn open_n(
     ensures { λ r. ⌜ Begun user r (numbersY w h edges stride «p_off» «lpf_off» «lpf_bottom_off») (classedLent (now (left .entry)) (now (lpf .entry)) (now («lpf_bottom» .entry)) (now (filters .entry)) (now (map .entry)) (now (subclass .entry)) (now (noskip .entry)) (now (skip .entry)) «base_q») (now (p .entry)) ⌝ }
 {
     let g = luma::numbers(w, h, edges, stride, p_off, lpf_off, lpf_bottom_off);
-    let status = classed::unit_status(
+    let z = classed::sizes(
         2,
-        g,
-        p.len(),
-        left.len(),
-        lpf.len(),
-        lpf_bottom.len(),
+        p,
+        left,
+        lpf,
+        lpf_bottom,
         filters.len(),
         map,
         subclass,
-        noskip.len(),
-        skip.len(),
+        noskip,
+        skip,
     );
+    let status = refusals::unit_status(2, g, z);
     opening::open(2, g, status, p, left, lpf, lpf_bottom)
 }
 
@@ -475,19 +464,19 @@ pub fn open_p(
     ensures { λ r. ⌜ Begun pretrained r (numbersY w h edges stride «p_off» «lpf_off» «lpf_bottom_off») (classedLent (now (left .entry)) (now (lpf .entry)) (now («lpf_bottom» .entry)) (now (filters .entry)) (now (map .entry)) (now (subclass .entry)) (now (noskip .entry)) (now (skip .entry)) «base_q») (now (p .entry)) ⌝ }
 {
     let g = luma::numbers(w, h, edges, stride, p_off, lpf_off, lpf_bottom_off);
-    let status = classed::unit_status(
+    let z = classed::sizes(
         3,
-        g,
-        p.len(),
-        left.len(),
-        lpf.len(),
-        lpf_bottom.len(),
+        p,
+        left,
+        lpf,
+        lpf_bottom,
         filters.len(),
         map,
         subclass,
-        noskip.len(),
-        skip.len(),
+        noskip,
+        skip,
     );
+    let status = refusals::unit_status(3, g, z);
     opening::open(3, g, status, p, left, lpf, lpf_bottom)
 }
 

@@ -2,20 +2,18 @@
 ghost use mathlib.Core.Path.{_≡_};
 ghost use Prim.Native.Nat.{ℕ, _+_, _*_, _-_, _/_, _≤_, _<_, min};
 ghost use lib.ListN.{length, getD};
-ghost use mathlib.Core.Bool.{not};
-ghost use lib.Dec.{eqb};
 ghost use Rattle.definition.specs.Blocks.{piecesOf, maskAt};
-ghost use Rattle.definition.specs.Refusals.{unitStatus, badShape};
+ghost use Rattle.definition.specs.Refusals.{sizesOf};
 ghost use Rattle.definition.specs.Units.{luma};
-ghost use Rattle.units.specs.States.{givenOf};
-ghost use Rattle.units.specs.Windows.{RowsLie, ring, rowsLent};
+ghost use Rattle.refusals.specs.Given.{givenOf, sizesGiven};
+ghost use Rattle.units.specs.Windows.{RowsLie, ring};
 ghost use Rattle.units.specs.Operations.{answer, Answered};
-ghost use Rattle.units.specs.Advances.{callOf};
-ghost use Rattle.units.specs.Luma.{lumaLent, lumaSizes, statusBy, Admitted, numbersY, Stepped};
+ghost use Rattle.units.specs.Advances.{callOf, Admitted};
+ghost use Rattle.units.specs.Luma.{lumaLent, numbersY, LumaStepped};
 use crate::Advanced;
-use crate::Numbers;
 use crate::State;
-use crate::refusals::Sizes;
+use refusals::Numbers;
+use refusals::Sizes;
 
 pub fn least(a: usize, b: usize) -> usize
     ensures { λ r. ⌜ r ≡ min a b ⌝ }
@@ -26,50 +24,23 @@ pub fn least(a: usize, b: usize) -> usize
     b
 }
 
-// The table for an opening, by lengths. There is no map.
-pub fn unit_status(
-    g: Numbers,
-    plane: usize,
-    left: usize,
-    top: usize,
-    bottom: usize,
-    filters: usize,
-    skip: usize,
-) -> u8
-    ensures { λ r. ⌜ r ≡ unitStatus luma (givenOf g) (lumaSizes plane left top bottom filters skip) ⌝ }
+// The lengths of all that is lent. There is no map.
+pub fn sizes(p: &[u8], left: &[u8], top: &[u8], bottom: &[u8], filter: &[i8], skip: &[u16]) -> Sizes
+    ensures { λ r. ⌜ sizesGiven r ≡ sizesOf luma (lumaLent (now (left .entry)) (now (top .entry)) (now (bottom .entry)) (now (filter .entry)) (now (skip .entry))) (now (p .entry)) ⌝ }
 {
-    let z = Sizes {
-        plane,
-        left,
-        top,
-        bottom,
+    Sizes {
+        plane: p.len(),
+        left: left.len(),
+        top: top.len(),
+        bottom: bottom.len(),
         luma_plane: 0,
         luma_top: 0,
         luma_bottom: 0,
-        skip,
+        skip: skip.len(),
         noskip: 0,
-        filters,
+        filters: filter.len(),
         bad_map: true,
-    };
-    crate::refusals::unit_status(1, g, z)
-}
-
-// The table for an advance: the state's shape comes first.
-pub fn status(
-    s: State,
-    plane: usize,
-    left: usize,
-    top: usize,
-    bottom: usize,
-    filters: usize,
-    skip: usize,
-) -> u8
-    ensures { λ r. ⌜ r ≡ statusBy s (lumaSizes plane left top bottom filters skip) ⌝ }
-{
-    if crate::refusals::bad_shape(1, 9, 8, s) {
-        return 13;
     }
-    unit_status(s.numbers, plane, left, top, bottom, filters, skip)
 }
 
 // The pieces of n rows from row k on.
@@ -120,17 +91,18 @@ pub fn row(
     top: &[u8],
     bottom: &[u8],
     filter: &[i8; 16],
-    mask: u16,
+    skip: &[u16],
     rows: &mut [u8; 1080],
     indices: &mut [usize; 10],
     next: usize,
 ) -> usize
     requires { ⌜ RowsLie luma (givenOf g) (length (now p)) (length (now left)) (length (now top)) (length (now bottom)) ⌝ }
-    requires { ⌜ (done < g .h) × (next ≤ 8) ⌝ }
+    requires { ⌜ (done < g .h) × (next ≤ 8) × (done < length (now skip)) ⌝ }
     requires { ⌜ ((j : ℕ) → getD (now indices) j 0 ≤ 9) ⌝ }
-    ensures { λ r. ⌜ Stepped g done (rowsLent (now (left .entry)) (now (top .entry)) (now (bottom .entry))) (now (filter .entry)) mask (now (p .entry)) (ring (now (rows .entry)) (now (indices .entry)) next) (now (p .exit)) (ring (now (rows .exit)) (now (indices .exit)) r) ⌝ }
+    ensures { λ r. ⌜ LumaStepped g done (lumaLent (now (left .entry)) (now (top .entry)) (now (bottom .entry)) (now (filter .entry)) (now (skip .entry))) (now (p .entry)) (ring (now (rows .entry)) (now (indices .entry)) next) (now (p .exit)) (ring (now (rows .exit)) (now (indices .exit)) r) ⌝ }
 {
     let turned = crate::rows::fetch_row(1, g, done, p, left, top, bottom, rows, indices, next);
+    let mask = mask_of_row(skip, done);
     let at = g.off + done * g.stride;
     crate::restore::restore_y(p, at, g.w, rows, indices, filter, mask);
     crate::rows::slide(indices, 8);
@@ -148,7 +120,7 @@ pub fn advanced(
     filter: &[i8],
     skip: &[u16],
 ) -> Advanced
-    requires { ⌜ Admitted s (length (now p)) (length (now left)) (length (now top)) (length (now bottom)) (length (now filter)) (length (now skip)) ⌝ }
+    requires { ⌜ Admitted luma count s (lumaLent (now left) (now top) (now bottom) (now filter) (now skip)) (now p) ⌝ }
     ensures { λ r. ⌜ Answered r (now (p .exit)) (answer (callOf luma count (lumaLent (now (left .entry)) (now (top .entry)) (now (bottom .entry)) (now (filter .entry)) (now (skip .entry)))) s (now (p .entry))) ⌝ }
 {
     let g = s.numbers;
@@ -162,7 +134,6 @@ pub fn advanced(
     let mut next = s.next;
     let mut i = 0;
     while i < n {
-        let mask = mask_of_row(skip, start + i);
         next = row(
             g,
             start + i,
@@ -171,7 +142,7 @@ pub fn advanced(
             top,
             bottom,
             &f,
-            mask,
+            skip,
             &mut rows,
             &mut indices,
             next,

@@ -8,13 +8,13 @@ ghost use Rattle.definition.specs.Units.{chroma};
 ghost use Rattle.model.specs.Rows.{firstRow};
 ghost use Rattle.model.specs.Opening.{filledRows};
 ghost use Rattle.model.specs.LumaRows.{lumaPadRow};
-ghost use Rattle.units.specs.States.{givenOf};
+ghost use Rattle.refusals.specs.Given.{givenOf};
 ghost use Rattle.units.specs.Chroma.{lumaRowsLent, LumaLie};
 ghost use Rattle.padding.specs.Padded.{source};
 ghost use Rattle.units.specs.LumaFrom.{LumaFits, lumaFrom};
-use crate::Numbers;
 use crate::rows::first_row;
 use crate::rows::is_set;
+use refusals::Numbers;
 
 // n columns or rows of chroma as luma's.
 fn scaled(n: usize, ss: usize) -> usize

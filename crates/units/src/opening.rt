@@ -2,12 +2,12 @@
 ghost use mathlib.Core.Path.{_≡_};
 ghost use Prim.Native.Nat.{_≤_};
 ghost use lib.ListN.{length};
-ghost use Rattle.units.specs.States.{givenOf, operationOf};
+ghost use Rattle.refusals.specs.Given.{givenOf, operationOf};
 ghost use Rattle.units.specs.Windows.{RowsLie, rowsLent};
 ghost use Rattle.units.specs.Openings.{noNumbers, noState, openState, stateUnless};
-use crate::Numbers;
 use crate::Opened;
 use crate::State;
+use refusals::Numbers;
 
 fn no_numbers() -> Numbers
     ensures { λ r. ⌜ r ≡ noNumbers ⌝ }

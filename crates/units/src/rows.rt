@@ -14,9 +14,9 @@ ghost use Rattle.definition.specs.Rows.{tab};
 ghost use Rattle.history.specs.Ring.{wrap, slid};
 ghost use Rattle.model.specs.Rows.{padRow, firstRow, belowRows, own};
 ghost use Rattle.model.specs.Opening.{filled, openIndex};
-ghost use Rattle.units.specs.States.{operationOf, givenOf};
+ghost use Rattle.refusals.specs.Given.{operationOf, givenOf};
 ghost use Rattle.units.specs.Windows.{rowsLent, RowsLie, ring, Fetched};
-use crate::Numbers;
+use refusals::Numbers;
 
 // The border e of an operation.
 pub fn border_of(op: usize) -> usize

@@ -1,10 +1,6 @@
 use lib.ListN.{length}
-use mathlib.Core.Path.{_≡_, refl, sym, _∙_, ap, subst}
-use native.Mathlib.Omega.{arith}
-use Rattle.definition.specs.Refusals.{widthLimit, heightLimit}
+use mathlib.Core.Path.{refl, ap}
 use Rattle.definition.specs.Card.{meaning}
-use Rattle.laws.proofs.Cards.{sized-le}
-use Rattle.card_reader.specs.Answers.{cardOf}
 use Rattle.card_answer.proofs.Fine.{meaning-fine}
 use Rattle.card_answer.proofs.Answered.{declined, Taken, taken, head-fits, answered, unit-answered}
 use borrow.Author.Needs.{needs}

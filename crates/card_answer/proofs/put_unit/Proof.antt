@@ -1,10 +1,10 @@
-use mathlib.Core.Path.{_≡_, refl, sym, _∙_, ap}
+use mathlib.Core.Path.{sym, _∙_, ap}
 use native.Mathlib.Omega.{arith}
-use Prim.Native.Nat.{_*_, _≤_}
-use lib.ListN.{length, take, drop}
+use Prim.Native.Nat.{_*_}
+use lib.ListN.{take, drop}
 use lib.Seq.{length-take-le}
 use Rattle.definition.specs.Refusals.{widthLimit, heightLimit}
-use Rattle.laws.proofs.Cards.{sized-le}
+use Rattle.card_reader.proofs.Cards.{sized-le}
 use Rattle.card_reader.proofs.Places.{front}
 use Rattle.card_answer.specs.Answers.{planeOf, unitText}
 use Rattle.card_answer.specs.Put.{put-then}

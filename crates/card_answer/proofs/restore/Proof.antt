@@ -1,8 +1,7 @@
-use mathlib.Core.Path.{_≡_, refl, sym, _∙_, ap}
+use mathlib.Core.Path.{sym, ap}
 use mathlib.Core.List.{_++_}
-use native.Mathlib.Omega.{arith}
-use Prim.Native.Nat.{_*_, _≤_}
-use lib.ListN.{length, take, drop}
+use Prim.Native.Nat.{_*_}
+use lib.ListN.{drop}
 use lib.Seq.{length-take-le}
 use Rattle.card_answer.proofs.Restorations.{restored-pieces, restored-plane}
 use borrow.Author.Needs.{needs}

@@ -1,14 +1,12 @@
 use Rattle.card_answer.proofs.Texts.{stored-more}
-use borrow.Author.Needs.{needs}
-use mathlib.Core.Path.{_≡_, refl, sym, _∙_, ap}
+use mathlib.Core.Path.{_≡_, refl}
 use native.Mathlib.Omega.{arith}
-use Prim.Native.Nat.{ℕ, _+_, _-_, _≤_, _/_, _%_}
+use Prim.Native.Nat.{_-_, _≤_, _/_, _%_}
 use mathlib.Core.Bool.{cond}
 use lib.Dec.{eqb}
 use lib.ListN.{getD, replicate}
 use lib.Seq.{sets}
 use Rattle.definition.specs.Rows.{tab}
-use Rattle.laws.proofs.Lists.{sets-more, sets-all}
 use Rattle.card_answer.proofs.spread.Statement.{statement}
 use Rattle.card_answer.proofs.spread.Tie as tie
 use Rattle.card_answer.proofs.spread.Reads as reads

@@ -1,10 +1,9 @@
 use borrow.Author.Tests.{not-true, not-false}
-use mathlib.Core.Path.{_≡_, refl, sym, _∙_, ap}
+use mathlib.Core.Path.{sym, _∙_, ap}
 use native.Mathlib.Omega.{arith}
-use Prim.Native.Nat.{_+_, _≤_}
-use Rattle.laws.proofs.Cards.{word-ends, size-ends, sized-le}
+use Rattle.card_reader.proofs.Cards.{word-ends, size-ends, sized-le}
 use Rattle.definition.specs.Refusals.{widthLimit, heightLimit}
-use Rattle.definition.specs.Card.{meaning, refused, word, opLine, wName, hName, edgesLine}
+use Rattle.definition.specs.Card.{refused, word, opLine, wName, hName, edgesLine}
 use Rattle.card_reader.specs.Answers.{cardOf}
 use Rattle.card_reader.proofs.Places.{found, missed, line-found, line-missed}
 use Rattle.card_reader.proofs.Meanings.{no-op, no-w, bad-w, no-h, bad-h, no-edges, lists-left}

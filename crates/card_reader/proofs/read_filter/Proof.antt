@@ -1,8 +1,6 @@
-use mathlib.Core.Path.{_≡_, sym, _∙_, ap}
 use native.Mathlib.Omega.{arith}
-use lib.ListN.{length}
-use Rattle.definition.specs.Card.{filterAt, filterName, word, wordAt, value, wrong}
-use Rattle.laws.proofs.Cards.{word-ends}
+use Rattle.definition.specs.Card.{filterAt, filterName, word}
+use Rattle.card_reader.proofs.Cards.{word-ends}
 use Rattle.card_reader.proofs.Places.{line-found, line-missed}
 use borrow.Author.Needs.{needs}
 use Rattle.card_reader.proofs.read_filter.Statement.{statement}

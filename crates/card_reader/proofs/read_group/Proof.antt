@@ -1,9 +1,8 @@
-use Rattle.laws.proofs.Cards.{pair-ends}
-use mathlib.Core.Path.{_≡_, refl, sym, ap, _∙_}
+use Rattle.card_reader.proofs.Cards.{pair-ends}
+use mathlib.Core.Path.{sym}
 use native.Mathlib.Omega.{arith}
-use Prim.Native.Nat.{_+_, _≤_, _<_}
 use borrow.Author.Tests.{eq-eqb, ne-eqb}
-use Rattle.definition.specs.Card.{groupAt, pairAt, value, wrong}
+use Rattle.definition.specs.Card.{groupAt}
 use Rattle.card_reader.proofs.Places.{found, missed, under}
 use borrow.Author.Needs.{needs}
 use Rattle.card_reader.proofs.read_group.Statement.{statement}

@@ -1,10 +1,10 @@
 use borrow.Author.Needs.{needs}
-use mathlib.Core.Path.{_≡_, refl, sym, ap, _∙_}
+use mathlib.Core.Path.{sym, ap, _∙_}
 use native.Mathlib.Omega.{arith}
-use Prim.Native.Nat.{_+_, _-_, _*_, _≤_, _<_}
+use Prim.Native.Nat.{_-_}
 use lib.ListN.{length}
 use Rattle.definition.specs.Card.{endOf, groupAt}
-use Rattle.laws.proofs.Cards.{Filling, filling-begins, filling-more, filling-stops, filling-ends, filling-near, itself, group-local}
+use Rattle.card_reader.proofs.Cards.{Filling, filling-begins, filling-more, filling-stops, filling-ends, filling-near, itself, group-local}
 use Rattle.card_reader.proofs.Places.{found, missed, under}
 use Rattle.card_reader.proofs.read_groups.Statement.{statement}
 use Rattle.card_reader.proofs.read_groups.Tie as tie

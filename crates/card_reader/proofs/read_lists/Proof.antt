@@ -1,8 +1,8 @@
-use mathlib.Core.Path.{_≡_, refl, sym, _∙_, ap}
+use mathlib.Core.Path.{refl, sym, _∙_, ap}
 use native.Mathlib.Omega.{arith}
-use Prim.Native.Nat.{_+_, _*_, _/_, _≤_}
-use Rattle.laws.proofs.Cards.{filter-ends, skip-ends}
-use Rattle.definition.specs.Card.{meaningOfLists, refused}
+use Prim.Native.Nat.{_/_}
+use Rattle.card_reader.proofs.Cards.{filter-ends, skip-ends}
+use Rattle.definition.specs.Card.{refused}
 use Rattle.card_reader.specs.Answers.{cardOf}
 use Rattle.card_reader.proofs.Places.{line-found, line-missed}
 use Rattle.card_reader.proofs.Meanings.{no-filter, no-skip, no-rows, no-end, all-read, stood, fallen, filled-rows, filled-skip}

@@ -1,9 +1,9 @@
-use mathlib.Core.Path.{_≡_, refl, sym, _∙_, ap}
+use mathlib.Core.Path.{sym}
 use native.Mathlib.Omega.{arith}
 use lib.ListN.{length}
 use borrow.Author.Tests.{eq-eqb, ne-eqb}
-use Rattle.definition.specs.Card.{rowAt, rowName, pairAt, several, word, wordAt, value, wrong}
-use Rattle.laws.proofs.Cards.{word-ends, several-ends, pair-local, itself}
+use Rattle.definition.specs.Card.{rowAt, rowName, pairAt, word}
+use Rattle.card_reader.proofs.Cards.{word-ends, several-ends, pair-local, itself}
 use Rattle.card_reader.proofs.Places.{line-found, line-missed}
 use borrow.Author.Needs.{needs}
 use Rattle.card_reader.proofs.read_row.Statement.{statement}

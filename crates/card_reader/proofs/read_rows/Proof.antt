@@ -1,15 +1,11 @@
 use borrow.Author.Needs.{needs}
-use mathlib.Core.Path.{_≡_, refl, sym, _∙_, ap}
-use native.Mathlib.Nat.{mul-le-mul, mul-le-mul-right, add-mul, one-mul}
+use mathlib.Core.Path.{_∙_}
 use native.Mathlib.Omega.{arith}
-use Prim.Native.Nat.{_+_, _-_, _*_, _≤_, _<_}
-use lib.ListN.{length, take, drop, length-drop}
-use lib.Seq.{length-take-le}
+use Prim.Native.Nat.{_+_, _-_, _*_, _≤_}
 use borrow.Rule.Slice.PartMut.{same-len-mid}
-use Rattle.definition.specs.Card.{rowAt, value, wrong}
 use Rattle.card_reader.proofs.Places.{line-found, line-missed}
 use Rattle.card_reader.proofs.Planes.{Joined, joined-begins, joined-size, joined-next, joined-stops, joined-ends, joined-near}
-use Rattle.laws.proofs.Cards.{room, rows-room, part-long}
+use Rattle.card_reader.proofs.Cards.{room, rows-room, part-long}
 use Rattle.card_reader.proofs.read_rows.Statement.{statement}
 use Rattle.card_reader.proofs.read_rows.Tie as tie
 use Rattle.card_reader.proofs.read_rows.Reads as reads

@@ -1,10 +1,9 @@
 use borrow.Author.Needs.{needs}
-use mathlib.Core.Path.{_≡_, refl, sym, ap, _∙_}
 use native.Mathlib.Omega.{arith}
-use Prim.Native.Nat.{_+_, _-_, _*_, _≤_, _<_}
+use Prim.Native.Nat.{_-_}
 use lib.ListN.{length}
 use Rattle.definition.specs.Card.{pairAt}
-use Rattle.laws.proofs.Cards.{Filling, filling-begins, filling-more, filling-stops, filling-ends, filling-near, itself, pair-local}
+use Rattle.card_reader.proofs.Cards.{Filling, filling-begins, filling-more, filling-stops, filling-ends, filling-near, itself, pair-local}
 use Rattle.card_reader.proofs.Places.{found, missed, under}
 use Rattle.card_reader.proofs.read_samples.Statement.{statement}
 use Rattle.card_reader.proofs.read_samples.Tie as tie

@@ -1,7 +1,6 @@
-use mathlib.Core.Path.{sym, _∙_, ap}
 use native.Mathlib.Omega.{arith}
 use Rattle.definition.specs.Card.{sizeAt, word}
-use Rattle.laws.proofs.Cards.{word-ends}
+use Rattle.card_reader.proofs.Cards.{word-ends}
 use Rattle.card_reader.proofs.Places.{line-found, line-missed}
 use borrow.Author.Needs.{needs}
 use Rattle.card_reader.proofs.read_size.Statement.{statement}

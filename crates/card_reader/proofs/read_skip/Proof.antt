@@ -1,10 +1,9 @@
-use lib.ListN.{length-drop}
-use mathlib.Core.Path.{_≡_, refl, sym, _∙_, ap}
+use mathlib.Core.Path.{_≡_, refl, sym, _∙_}
 use native.Mathlib.Omega.{arith}
-use lib.ListN.{length, take, drop, length-take}
-use lib.Seq.{length-take-le, take-append-seam, drop-append-seam}
-use Rattle.definition.specs.Card.{skipAt, skipName, word, wordAt, value, wrong}
-use Rattle.laws.proofs.Cards.{word-ends}
+use lib.ListN.{length, take, drop}
+use lib.Seq.{length-take-le}
+use Rattle.definition.specs.Card.{skipAt, skipName, word}
+use Rattle.card_reader.proofs.Cards.{word-ends}
 use Rattle.card_reader.proofs.Places.{line-found, line-missed, front, behind}
 use borrow.Author.Needs.{needs}
 use Rattle.card_reader.proofs.read_skip.Statement.{statement}

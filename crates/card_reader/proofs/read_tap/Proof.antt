@@ -1,7 +1,5 @@
-use Rattle.definition.specs.Card.{value, wrong}
-use Rattle.card_reader.specs.Answers.{tapOf}
 use borrow.Author.Tests.{eq-eqb, ne-eqb}
-use mathlib.Core.Path.{_≡_, sym, ap, _∙_}
+use mathlib.Core.Path.{sym, ap, _∙_}
 use Rattle.definition.specs.Card.{tapAt, reading, negated, unsigned}
 use Rattle.card_reader.specs.Answers.{numberOf}
 use borrow.Author.Needs.{needs}

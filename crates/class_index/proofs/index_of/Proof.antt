@@ -1,8 +1,7 @@
 -- `class_index::index_of` meets its contract: each part is the definition's. Assumes nothing.
 use mathlib.Core.Path.{_≡_, _∙_}
 use Prim.Native.Nat.{_+_, _*_}
-use lib.IntN.{pos, _+ℤ_}
-use lib.ListN.{getD}
+use lib.IntN.{_+ℤ_}
 use mir.Syntax.{w32}
 use mir.Val.{toZ, ofZ}
 use mir.Facts.{toZ-ofZ}

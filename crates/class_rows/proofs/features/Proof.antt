@@ -5,8 +5,6 @@ use native.Mathlib.Nat.{zero-add}
 use native.Mathlib.Omega.{arith}
 use lib.IntN.{pos, _-ℤ_}
 use lib.ListN.{length, getD, length-set, replicate}
-use lib.Seq.{sets}
-use Rattle.definition.specs.Rows.{tab}
 use Rattle.laws.proofs.Lists.{sets-more}
 use Rattle.class_rows.specs.Features.{featureAt, featureRow, columnSum}
 use Rattle.class_rows.proofs.Columns.{feature-is}

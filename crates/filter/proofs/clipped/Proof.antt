@@ -1,5 +1,5 @@
 -- `filter::clipped` meets its contract: each way out is a law of `Rounding`. Assumes nothing.
-use mathlib.Core.Path.{_≡_, sym, ap, _∙_}
+use mathlib.Core.Path.{sym, ap, _∙_}
 use lib.IntN.{pos}
 use lib.Signed.{pos-natAbs}
 use mir.Facts.{toZ-ofZ}

@@ -1,8 +1,8 @@
 -- `filter::ns_wiener_fir_run` meets its contract: after each turn the first x samples are written. Assumes nothing.
 use native.Mathlib.Omega.{arith}
 use mathlib.Core.Path.{_≡_, sym, ap, _∙_}
-use Prim.Native.Nat.{ℕ, _+_, _-_, _≤_, _<_, min}
-use lib.ListN.{length, getD}
+use Prim.Native.Nat.{ℕ, _+_, _-_, _<_}
+use lib.ListN.{length}
 use Rattle.definition.specs.Rows.{lumaFlat}
 use Rattle.definition.specs.Sample.{lumaSample}
 use Rattle.filter.specs.Runs.{runStatus, coefficients}

@@ -1,12 +1,11 @@
 -- `filter::pc_start` meets its contract: the rules of `Held`, in the order of the code. Assumes nothing.
 use borrow.Author.Needs.{needs}
 use native.Mathlib.Omega.{arith}
-use mathlib.Core.Path.{_≡_, _∙_}
-use Prim.Native.Nat.{ℕ, _<_, _^_}
+use mathlib.Core.Path.{_∙_}
+use Prim.Native.Nat.{_<_}
 use lib.Dec.{lit<}
 use lib.IntN.{ℤ, pos, _+ℤ_, _*ℤ_}
 use lib.ListN.{getD}
-use lib.Signed.{mag}
 use mir.Syntax.{w16, w32}
 use mir.Val.{ofZ}
 use Rattle.laws.proofs.Sums.{begun}

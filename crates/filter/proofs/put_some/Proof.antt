@@ -1,7 +1,7 @@
 -- `filter::put_some` meets its contract: after j turns the first j samples are stored. Assumes nothing.
 use native.Mathlib.Omega.{arith}
 use mathlib.Core.Path.{_≡_, refl}
-use Prim.Native.Nat.{ℕ, _+_, _-_, _≤_}
+use Prim.Native.Nat.{_+_, _-_, _≤_}
 use lib.ListN.{length, getD, length-set}
 use lib.Seq.{sets}
 use Rattle.definition.specs.Rows.{tab}

@@ -1,16 +1,16 @@
 -- `filter::taken_off` meets its contract: after k turns the first k numbers are added up. Assumes nothing.
 use native.Mathlib.Omega.{arith}
-use mathlib.Core.Path.{_≡_, refl, _∙_}
+use mathlib.Core.Path.{_≡_}
 use mathlib.Core.List.{List}
 use Prim.Native.Nat.{ℕ, _+_, _-_, _*_, _≤_, _<_}
 use native.Mathlib.Numerals.{add-one}
 use lib.Dec.{lit<, lit≤}
-use lib.IntN.{ℤ, pos, natAbs, _+ℤ_, _*ℤ_}
+use lib.IntN.{ℤ, pos}
 use lib.ListN.{getD}
 use mir.Syntax.{w16, w32}
 use mir.Val.{ofZ}
 use Rattle.definition.specs.Numbers.{sumZ}
-use Rattle.laws.proofs.Held.{Held, mulB, castB, natural, typed, under, cast, cast-fits, plus, plus-fits, times, times-fits}
+use Rattle.laws.proofs.Held.{Held, castB, natural, typed, cast, cast-fits, plus, plus-fits, times, times-fits}
 use Rattle.filter.specs.Runs.{coefficients}
 use Rattle.filter.proofs.taken_off.Statement.{statement}
 use Rattle.filter.proofs.taken_off.Tie as tie

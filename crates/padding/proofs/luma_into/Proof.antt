@@ -1,5 +1,5 @@
 -- `padding::luma_into` meets its contract: where no lower row is read, the upper one is copied (`copied`). Assumes nothing.
-use mathlib.Core.Path.{_≡_, sym, _∙_}
+use mathlib.Core.Path.{sym, _∙_}
 use borrow.Author.Needs.{needs}
 use Rattle.padding.proofs.Columns.{copied}
 use Rattle.padding.proofs.luma_into.Statement.{statement}

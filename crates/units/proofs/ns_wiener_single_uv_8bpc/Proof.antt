@@ -1,5 +1,5 @@
 -- `units::ns_wiener_single_uv_8bpc` meets its contract: demand 2, by the theorem of demand 3 at the history of one advance. Assumes nothing.
-use mathlib.Core.Path.{_≡_, refl}
+use mathlib.Core.Path.{refl}
 use Rattle.definition.specs.Units.{chroma}
 use Rattle.units.specs.Chroma.{chromaLent, numbersC}
 use Rattle.units.specs.ChromaHistory.{chroma-history}

@@ -1,11 +1,13 @@
 -- `units::open_y` meets its contract: the status, and the state that it stands for. Assumes nothing.
-use mathlib.Core.Path.{sym, _∙_}
+use mathlib.Core.Path.{refl, sym, _∙_, ap}
 use native.Mathlib.Omega.{arith}
-use lib.ListN.{length}
-use Rattle.units.specs.States.{givenOf}
-use Rattle.units.specs.Luma.{numbersY}
-use Rattle.units.proofs.Shapes.{rows-lie}
-use Rattle.units.proofs.Turns.{begun}
+use Rattle.definition.specs.Units.{luma}
+use Rattle.definition.specs.Refusals.{sizesOf, unitStatus}
+use Rattle.model.specs.Fine.{fine}
+use Rattle.refusals.specs.Given.{givenOf}
+use Rattle.units.specs.Luma.{lumaLent, numbersY}
+use Rattle.units.proofs.Admissions.{rows-lie}
+use Rattle.units.proofs.Openings.{begun}
 use borrow.Author.Needs.{needs}
 use Rattle.units.proofs.open_y.Statement.{statement}
 use Rattle.units.proofs.open_y.Tie as tie
@@ -13,23 +15,27 @@ use Rattle.units.proofs.open_y.Tie as tie
 numbers-requires : tie.Need-numbers-requires
 numbers-requires c κs = search needs
 
+sizes-requires : tie.Need-sizes-requires
+sizes-requires c κs = search needs
+
 unit-status-requires : tie.Need-unit-status-requires
 unit-status-requires c κs = search needs
 
 open-requires : tie.Need-open-requires
 open-requires c κs =
-    let a = c .before .before .before .before .before .before .before .args in (
+    let a = c .before .before .before .before .before .before .before .before .args in
+    let g = givenOf (c .before .before .numbers .result) in (
       (omega arith, omega arith),
       λ e.
-          rows-lie (givenOf (c .before .numbers .result)) (length (a .p .now)) (length (a .left .now)) (length (a .lpf .now)) (length (a .lpf-bottom .now)) (length (a .filter .now)) (length (a .skip .now))
-          (sym (c .unit-status .ensures) ∙ e),
+          rows-lie luma g (lumaLent (a .left .now) (a .lpf .now) (a .lpf-bottom .now) (a .filter .now) (a .skip .now)) (a .p .now)
+          (fine luma g (sizesOf luma (lumaLent (a .left .now) (a .lpf .now) (a .lpf-bottom .now) (a .filter .now) (a .skip .now)) (a .p .now)) (sym (c .unit-status .ensures ∙ ap (unitStatus luma g) (c .before .sizes .ensures)) ∙ e)),
     )
 
 returns : tie.Need-returns
 returns c =
-    let a = c .before .before .before .before .before .before .before .before .args in
-    begun (a .left .now) (a .lpf .now) (a .lpf-bottom .now) (a .filter .now) (a .skip .now)
-    (numbersY (a .w) (a .h) (a .edges) (a .stride) (a .p-off) (a .lpf-off) (a .lpf-bottom-off)) (a .p .now) (c .before .before .numbers .ensures) (c .before .unit-status .ensures) (c .«open» .ensures)
+    let a = c .before .before .before .before .before .before .before .before .before .args in
+    begun luma (lumaLent (a .left .now) (a .lpf .now) (a .lpf-bottom .now) (a .filter .now) (a .skip .now)) refl (numbersY (a .w) (a .h) (a .edges) (a .stride) (a .p-off) (a .lpf-off) (a .lpf-bottom-off)) (a .p .now) (c .before .before .before .numbers .ensures)
+    (c .before .unit-status .ensures ∙ ap (unitStatus luma (givenOf (c .before .before .before .numbers .result))) (c .before .before .sizes .ensures)) (c .«open» .ensures)
 
 pub open-y-spec : {M : Type 1} → statement M
-open-y-spec = tie.close (tie.spec numbers-requires unit-status-requires open-requires returns)
+open-y-spec = tie.close (tie.spec numbers-requires sizes-requires unit-status-requires open-requires returns)

@@ -1,7 +1,6 @@
-use mathlib.Core.Path.{_≡_, refl, sym, _∙_, ap}
 use native.Mathlib.Omega.{arith}
 use Rattle.definition.specs.Card.{decimalText}
-use Rattle.card_answer.specs.Put.{Put, put-then}
+use Rattle.card_answer.specs.Put.{put-then}
 use Rattle.card_answer.proofs.Texts.{higher-short}
 use borrow.Author.Needs.{needs}
 use Rattle.card_answer.proofs.text.put_decimal.Statement.{statement}

@@ -1,4 +1,3 @@
-use mathlib.Core.Path.{_≡_, refl, sym, _∙_, ap}
 use native.Mathlib.Omega.{arith}
 use Rattle.definition.specs.Card.{rowText}
 use Rattle.card_answer.specs.Put.{put-then}

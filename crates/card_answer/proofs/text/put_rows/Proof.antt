@@ -1,9 +1,9 @@
-use mathlib.Core.Path.{_≡_, refl, sym, _∙_, ap}
+use mathlib.Core.Path.{_≡_, refl, _∙_}
 use native.Mathlib.Omega.{arith}
-use Prim.Native.Nat.{_+_, _-_, _*_, _≤_, _<_}
-use lib.ListN.{length, take, drop}
+use Prim.Native.Nat.{_+_, _-_, _*_, _≤_}
+use lib.ListN.{length}
 use Rattle.definition.specs.Card.{rowsText}
-use Rattle.laws.proofs.Cards.{room, part-long}
+use Rattle.card_reader.proofs.Cards.{room, part-long}
 use Rattle.card_answer.specs.Put.{Put, put-none}
 use Rattle.card_answer.proofs.Texts.{rows-short, rows-more, in-plane}
 use Rattle.card_answer.proofs.text.put_rows.Statement.{statement}

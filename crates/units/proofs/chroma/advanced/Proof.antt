@@ -1,16 +1,19 @@
 -- `units::chroma::advanced` meets its contract. The loop's invariant: i steps were gone. Assumes nothing.
-use mathlib.Core.Path.{_≡_}
+use mathlib.Core.Path.{_≡_, refl}
 use Prim.Native.Nat.{ℕ, _+_, _-_, _≤_}
 use native.Mathlib.Omega.{arith}
 use borrow.Author.Needs.{needs, length-unmapped}
 use lib.ListN.{length, getD}
 use Rattle.definition.specs.Units.{chroma}
+use Rattle.definition.specs.Refusals.{sizesOf}
+use Rattle.refusals.specs.Given.{givenOf}
 use Rattle.units.specs.Windows.{ring}
 use Rattle.units.specs.Operations.{moved}
 use Rattle.units.specs.Advances.{Gone}
 use Rattle.units.specs.Chroma.{chromaLent}
-use Rattle.units.proofs.Shaped.{low-all}
-use Rattle.units.proofs.Chromas.{gone-start, gone-row, served}
+use Rattle.units.proofs.Admissions.{one-set, low-all}
+use Rattle.units.proofs.Advances.{gone-first, gone-row, gone-all}
+use Rattle.units.proofs.BothLie.{both-lie}
 use Rattle.units.proofs.chroma.advanced.Statement.{statement}
 use Rattle.units.proofs.chroma.advanced.Tie as tie
 
@@ -29,13 +32,16 @@ least-requires : tie.Need-least-requires Inv-loop μ-loop
 least-requires c κs = search needs
 
 filter-of-requires : tie.Need-filter-of-requires Inv-loop μ-loop
-filter-of-requires c κs = c .before .before .before .before .before .before .before .before .before .before .before .pre .filter
+filter-of-requires c κs =
+    let s = c .before .before .before .before .before .before .before .before .before .before .before in
+    let a = s .args in
+    one-set chroma (givenOf (a .s .numbers)) (sizesOf chroma (chromaLent (a .left .now) (a .top .now) (a .bottom .now) (a .filter .now) (a .luma .now) (a .luma-top .now) (a .luma-bottom .now) (a .skip .now)) (a .p .now)) refl (s .pre .fine)
 
 pieces-of-rows-requires : tie.Need-pieces-of-rows-requires Inv-loop μ-loop
 pieces-of-rows-requires c κs =
     let f = c .before .before .before .before .before .before .before .before .before .before .before .before .before .pre in
     let m = c .before .before .least .ensures in
-    (omega (arith, f .lie .rows .wide .high), omega (arith, f .lie .rows .tall .high, m), omega (arith, f .mask, m))
+    (omega (arith, f .fine .wide .high), omega (arith, f .fine .tall .high, m), omega (arith, f .fine .skip, m))
 
 loop-holds : tie.Need-loop-holds Inv-loop μ-loop
 loop-holds c =
@@ -44,7 +50,7 @@ loop-holds c =
     let n : length (a .s .indices) ≡ 10 = length-unmapped _ (a .s .indices) 10 (s .good .0 .1 .1 .1 .1 .1 .1 .1 .0 .1 .0 .1) in
     let r : length (a .s .rows) ≡ 1080 = length-unmapped _ (a .s .rows) 1080 (s .good .0 .1 .1 .1 .1 .1 .1 .1 .1 .0 .1 .0 .1) in (
       omega arith,
-      gone-start (a .left .now) (a .top .now) (a .bottom .now) (a .filter .now) (a .luma .now) (a .luma-top .now) (a .luma-bottom .now) (a .skip .now) (a .s) (a .p .now),
+      gone-first chroma (chromaLent (a .left .now) (a .top .now) (a .bottom .now) (a .filter .now) (a .luma .now) (a .luma-top .now) (a .luma-bottom .now) (a .skip .now)) (a .s) (a .p .now),
       low-all (a .s .indices) 4 n (s .pre .low),
       s .pre .next,
       r,
@@ -52,14 +58,16 @@ loop-holds c =
     )
 
 add-row : tie.Need-add-row Inv-loop μ-loop
-add-row c = let f = c .before .before .before .before .before .before .before .before .before .before .before .before .before .before .before .before .before .before .before .pre in omega (arith, f .lie .rows .tall .high, f .done, c .before .before .before .before .before .before .before .before .least .ensures)
+add-row c = let f = c .before .before .before .before .before .before .before .before .before .before .before .before .before .before .before .before .before .before .before .pre in omega (arith, f .fine .tall .high, f .done, c .before .before .before .before .before .before .before .before .least .ensures)
 
 row-requires : tie.Need-row-requires Inv-loop μ-loop
 row-requires c κs =
-    let f = c .before .before .before .before .before .before .before .before .before .before .before .before .before .before .before .before .before .before .before .before .before .before .before .pre in
+    let s = c .before .before .before .before .before .before .before .before .before .before .before .before .before .before .before .before .before .before .before .before .before .before .before in
+    let a = s .args in
+    let f = s .pre in
     let l = c .before .before .before .before .before .loop .inv in
     let m = c .before .before .before .before .before .before .before .before .before .before .before .before .least .ensures in
-    (rw (l .1 .size) (f .lie), ((omega (arith, f .done, m), l .3, omega (arith, f .done, f .mask, m)), (l .4, l .5, l .2)))
+    (rw (l .1 .size) (both-lie (givenOf (a .s .numbers)) (a .left .now) (a .top .now) (a .bottom .now) (a .filter .now) (a .luma .now) (a .luma-top .now) (a .luma-bottom .now) (a .skip .now) (a .p .now) (f .fine)), ((omega (arith, f .done, m), l .3, omega (arith, f .done, f .fine .skip, m)), (l .4, l .5, l .2)))
 
 add-i : tie.Need-add-i Inv-loop μ-loop
 add-i c = omega arith
@@ -71,9 +79,10 @@ loop-again : tie.Need-loop-again Inv-loop μ-loop
 loop-again c =
     let l = c .before .before .before .before .before .before .before .before .loop in
     let a = c .before .before .before .before .before .before .before .before .before .before .before .before .before .before .before .before .before .before .before .before .before .before .before .before .before .before .args in
-    let r = c .before .before .row .ensures in (
+    let r = c .before .before .row .ensures in
+    let e = c .before .before .before .before .before .before .before .before .before .before .before .before .before .before .filter-of .ensures in (
       omega arith,
-      gone-row (a .left .now) (a .top .now) (a .bottom .now) (a .filter .now) (a .luma .now) (a .luma-top .now) (a .luma-bottom .now) (a .skip .now) (a .s) (a .p .now) (l .i) (l .inv .1) (c .before .before .before .before .before .before .before .before .before .before .before .before .before .before .filter-of .ensures) r,
+      gone-row chroma (chromaLent (a .left .now) (a .top .now) (a .bottom .now) (a .filter .now) (a .luma .now) (a .luma-top .now) (a .luma-bottom .now) (a .skip .now)) (a .s) (a .p .now) (l .i) (l .inv .1) (rw e at (r .step (a .s .classes))),
       r .low,
       r .next,
       r .long,
@@ -81,7 +90,7 @@ loop-again c =
     )
 
 add-t22 : tie.Need-add-t22 Inv-loop μ-loop
-add-t22 c = let f = c .before .before .before .before .before .before .before .before .before .before .before .before .before .before .before .before .before .before .before .pre in omega (arith, f .lie .rows .tall .high, f .done, c .before .before .before .before .before .before .before .before .least .ensures)
+add-t22 c = let f = c .before .before .before .before .before .before .before .before .before .before .before .before .before .before .before .before .before .before .before .pre in omega (arith, f .fine .tall .high, f .done, c .before .before .before .before .before .before .before .before .least .ensures)
 
 same-length : tie.Need-same-length Inv-loop μ-loop
 same-length c = c .before .loop .inv .1 .size
@@ -93,7 +102,7 @@ returns c =
     let n = c .before .before .before .before .before .before .before .before .least in
     let s = c .before .before .before .before .before .before .before .before .before .before .before .before .before .before .before .before .before .before .before in
     let a = s .args in
-    served (a .left .now) (a .top .now) (a .bottom .now) (a .filter .now) (a .luma .now) (a .luma-top .now) (a .luma-bottom .now) (a .skip .now) (a .s) (a .p .now) (a .count) (n .result) (l .i) (q .result) (s .pre .status) (n .ensures) (omega arith) (q .ensures) (l .inv .1)
+    gone-all chroma (chromaLent (a .left .now) (a .top .now) (a .bottom .now) (a .filter .now) (a .luma .now) (a .luma-top .now) (a .luma-bottom .now) (a .skip .now)) (a .s) (a .p .now) (a .count) (n .result) (l .i) (q .result) (s .pre .status) (n .ensures) (omega arith) (q .ensures) (l .inv .1)
 
 pub advanced-spec : {M : Type 1} → statement M
 advanced-spec =

@@ -1,5 +1,5 @@
 -- `classed::advanced_n` meets its contract. The loop's invariant: the plane, the ring and the classes are those after i rows. Assumes nothing.
-use mathlib.Core.Path.{_≡_}
+use mathlib.Core.Path.{_≡_, refl}
 use Prim.Native.Nat.{_+_, _-_, _/_, _≤_}
 use native.Mathlib.Omega.{arith}
 use lib.ListN.{length}
@@ -12,7 +12,8 @@ use Rattle.units.specs.Operations.{moved}
 use Rattle.units.specs.Advances.{Gone}
 use Rattle.units.specs.Classed.{classedLent}
 use Rattle.units.specs.ClassedRows.{Sound}
-use Rattle.units.proofs.ClassedTurns.{gone-first, gone-row, gone-all}
+use Rattle.units.proofs.Advances.{gone-first, gone-row, gone-all}
+use Rattle.units.proofs.ClassedTurns.{fit, sound-first}
 use Rattle.units.proofs.classed.advanced_n.Statement.{statement}
 use Rattle.units.proofs.classed.advanced_n.Tie as tie
 
@@ -32,16 +33,16 @@ least-requires c κs = tt
 pieces-of-rows-requires : tie.Need-pieces-of-rows-requires Inv-loop μ-loop
 pieces-of-rows-requires c κs =
     let f = c .before .before .before .before .before .before .before .before .before .before .before .before .pre in
-    (omega (arith, f .fit .lie .wide .high), omega (arith, f .fit .lie .tall .high, f .done, c .before .least .ensures), omega (arith, f .fit .mask, f .done, c .before .least .ensures))
+    (omega (arith, f .fine .wide .high), omega (arith, f .fine .tall .high, f .done, c .before .least .ensures), omega (arith, f .fine .skip, f .done, c .before .least .ensures))
 
 loop-holds : tie.Need-loop-holds Inv-loop μ-loop
 loop-holds c =
     let s = c .before .before .before .before .before .before .before .before .before .before .before .before .before .before .before .before in
     let a = s .args in
-    (omega arith, gone-first user (classedLent (a .left .now) (a .top .now) (a .bottom .now) (a .filters .now) (a .map .now) (a .subclass .now) (a .noskip .now) (a .skip .now) (toZ w32 (ofZ w32 (a .base-q)))) (a .s) (a .p .now), s .pre .sound)
+    (omega arith, gone-first user (classedLent (a .left .now) (a .top .now) (a .bottom .now) (a .filters .now) (a .map .now) (a .subclass .now) (a .noskip .now) (a .skip .now) (toZ w32 (ofZ w32 (a .base-q)))) (a .s) (a .p .now), sound-first user refl (s .pre))
 
 add-row-n : tie.Need-add-row-n Inv-loop μ-loop
-add-row-n c = let f = c .before .before .before .before .before .before .before .before .before .before .before .before .before .before .before .before .before .before .pre in omega (arith, f .fit .lie .tall .high, f .done, c .before .before .before .before .before .before .before .least .ensures)
+add-row-n c = let f = c .before .before .before .before .before .before .before .before .before .before .before .before .before .before .before .before .before .before .pre in omega (arith, f .fine .tall .high, f .done, c .before .before .before .before .before .before .before .least .ensures)
 
 row-n-requires : tie.Need-row-n-requires Inv-loop μ-loop
 row-n-requires c κs =
@@ -49,7 +50,7 @@ row-n-requires c κs =
     let a = s .args in
     let t = c .before .before .before .before .loop .inv in
     let q-is : toZ w32 (ofZ w32 (a .base-q)) ≡ a .base-q = toZ-ofZ (s .fits .base-q) in
-    (rw (q-is, t .1 .size) (s .pre .fit), (omega (arith, s .pre .done, c .before .before .before .before .before .before .before .before .before .before .least .ensures), t .2))
+    (rw (q-is, t .1 .size) (fit user refl (a .s .numbers) (classedLent (a .left .now) (a .top .now) (a .bottom .now) (a .filters .now) (a .map .now) (a .subclass .now) (a .noskip .now) (a .skip .now) (a .base-q)) (a .p .now) (s .pre .fine)), (omega (arith, s .pre .done, c .before .before .before .before .before .before .before .before .before .before .least .ensures), t .2))
 
 add-i : tie.Need-add-i Inv-loop μ-loop
 add-i c = omega arith
@@ -62,10 +63,10 @@ loop-again c =
     let a = c .before .before .before .before .before .before .before .before .before .before .before .before .before .before .before .before .before .before .before .before .before .before .before .before .before .args in
     let l = c .before .before .before .before .before .before .before .before .loop in
     let r = c .before .before .before .row-n .ensures in
-    (omega arith, gone-row user (classedLent (a .left .now) (a .top .now) (a .bottom .now) (a .filters .now) (a .map .now) (a .subclass .now) (a .noskip .now) (a .skip .now) (toZ w32 (ofZ w32 (a .base-q)))) (a .s) (a .p .now) (l .i) (l .inv .1) r, r .sound)
+    (omega arith, gone-row user (classedLent (a .left .now) (a .top .now) (a .bottom .now) (a .filters .now) (a .map .now) (a .subclass .now) (a .noskip .now) (a .skip .now) (toZ w32 (ofZ w32 (a .base-q)))) (a .s) (a .p .now) (l .i) (l .inv .1) (r .step), r .sound)
 
 add-t23 : tie.Need-add-t23 Inv-loop μ-loop
-add-t23 c = let f = c .before .before .before .before .before .before .before .before .before .before .before .before .before .before .before .before .before .before .pre in omega (arith, f .fit .lie .tall .high, f .done, c .before .before .before .before .before .before .before .least .ensures)
+add-t23 c = let f = c .before .before .before .before .before .before .before .before .before .before .before .before .before .before .before .before .before .before .pre in omega (arith, f .fine .tall .high, f .done, c .before .before .before .before .before .before .before .least .ensures)
 
 same-length : tie.Need-same-length Inv-loop μ-loop
 same-length c = c .before .loop .inv .1 .size

@@ -1,7 +1,6 @@
 -- `classed::class_of` meets its contract: the call for the index is not refused, and the index is below the map's size. Assumes nothing.
 use mathlib.Core.Path.{_≡_, _∙_, ap}
 use Prim.Native.Nat.{ℕ, _*_, _<_}
-use native.Mathlib.Omega.{arith}
 use lib.IntN.{ℤ}
 use lib.ListN.{length, getD}
 use mir.Facts.{toZ-ofZ}

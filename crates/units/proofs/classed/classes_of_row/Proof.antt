@@ -13,7 +13,7 @@ use Rattle.definition.specs.Rows.{tab}
 use Rattle.definition.specs.ClassIndex.{skipSum, indexOf}
 use Rattle.class_rows.specs.Features.{featureAt}
 use Rattle.laws.proofs.Lists.{sets-more, tab-cong}
-use Rattle.units.specs.States.{givenOf}
+use Rattle.refusals.specs.Given.{givenOf}
 use Rattle.units.specs.Windows.{ring}
 use Rattle.units.specs.Classed.{classLent}
 use Rattle.units.specs.Operations.{classAt}

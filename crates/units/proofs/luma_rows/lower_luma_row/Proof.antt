@@ -4,7 +4,7 @@ use Prim.Native.Nat.{_-_}
 use native.Mathlib.Omega.{arith}
 use borrow.Author.Needs.{needs}
 use Rattle.definition.specs.Units.{chroma}
-use Rattle.units.specs.States.{givenOf}
+use Rattle.refusals.specs.Given.{givenOf}
 use Rattle.units.proofs.Edges.{bit-is, plane-row}
 use Rattle.units.proofs.LumaSources.{ver-low, at-inside, plane-fits, bottom-two-fits, bottom-second-fits, own-is, plane-is, last-is, bottom-two-is, bottom-second-is}
 use Rattle.units.proofs.luma_rows.lower_luma_row.Statement.{statement}

@@ -8,7 +8,7 @@ use Rattle.definition.specs.Units.{chroma}
 use Rattle.model.specs.Rows.{firstRow}
 use Rattle.model.specs.Opening.{filledRows}
 use Rattle.model.specs.LumaRows.{lumaPadRow}
-use Rattle.units.specs.States.{givenOf}
+use Rattle.refusals.specs.Given.{givenOf}
 use Rattle.units.specs.Chroma.{lumaRowsLent}
 use Rattle.units.proofs.Behind.{front-size, behind-none, behind-more}
 use Rattle.units.proofs.luma_rows.open_luma_rows.Statement.{statement}

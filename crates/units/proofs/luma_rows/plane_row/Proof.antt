@@ -5,7 +5,7 @@ use native.Mathlib.Omega.{arith}
 use lib.ListN.{length}
 use denote.Ref.{now}
 use borrow.Author.Needs.{needs}
-use Rattle.units.specs.States.{givenOf}
+use Rattle.refusals.specs.Given.{givenOf}
 use Rattle.units.specs.LumaFrom.{lumaFrom}
 use Rattle.units.proofs.LumaSources.{at-inside}
 use Rattle.units.proofs.luma_rows.plane_row.Statement.{statement}

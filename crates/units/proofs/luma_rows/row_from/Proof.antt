@@ -1,7 +1,7 @@
 -- `units::luma_rows::row_from` meets its contract: the padding is not refused. Assumes nothing.
 use mathlib.Core.Path.{_∙_}
 use borrow.Author.Needs.{needs}
-use Rattle.units.specs.States.{givenOf}
+use Rattle.refusals.specs.Given.{givenOf}
 use Rattle.units.proofs.LumaSources.{from-served}
 use Rattle.units.proofs.luma_rows.row_from.Statement.{statement}
 use Rattle.units.proofs.luma_rows.row_from.Tie as tie

@@ -4,7 +4,7 @@ use Prim.Native.Nat.{ℕ, _*_, _-_, _≤_}
 use native.Mathlib.Omega.{arith}
 use denote.Ref.{now}
 use borrow.Author.Needs.{needs}
-use Rattle.units.specs.States.{givenOf}
+use Rattle.refusals.specs.Given.{givenOf}
 use Rattle.units.specs.LumaFrom.{lumaFrom}
 use Rattle.units.proofs.Edges.{bit-is}
 use Rattle.units.proofs.LumaSources.{ver-low, at-inside, back-low, back-fits, top-two-fits, top-first-fits, top-second-fits, back-is, top-first-is, top-second-is, top-two-is, saved-top}

@@ -1,6 +1,6 @@
 -- `opening::first_state` meets its contract: the rows and the indices of the opening. Assumes nothing.
 use Rattle.units.specs.Windows.{rowsLent}
-use Rattle.units.proofs.ClassedTurns.{first-is}
+use Rattle.units.proofs.Openings.{first-is}
 use borrow.Author.Needs.{needs}
 use Rattle.units.proofs.opening.first_state.Statement.{statement}
 use Rattle.units.proofs.opening.first_state.Tie as tie

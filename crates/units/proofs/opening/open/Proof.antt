@@ -1,9 +1,9 @@
 -- `opening::open` meets its contract: by the status. Assumes nothing.
 use mathlib.Core.Path.{refl, _∙_}
-use Rattle.units.specs.States.{operationOf}
+use Rattle.refusals.specs.Given.{operationOf}
 use Rattle.units.specs.Windows.{rowsLent}
 use Rattle.units.specs.Openings.{openState}
-use Rattle.units.proofs.ClassedTurns.{none-unless}
+use Rattle.units.proofs.Openings.{none-unless}
 use borrow.Author.Needs.{needs}
 use Rattle.units.proofs.opening.open.Statement.{statement}
 use Rattle.units.proofs.opening.open.Tie as tie

@@ -3,7 +3,7 @@ use mathlib.Core.Path.{refl}
 use Prim.Native.Nat.{_+_}
 use native.Mathlib.Omega.{arith}
 use borrow.Author.Needs.{needs}
-use Rattle.units.specs.States.{operationOf}
+use Rattle.refusals.specs.Given.{operationOf}
 use Rattle.units.proofs.Edges.{border-high, border-low}
 use Rattle.units.proofs.Rings.{fetched-own, fetched-again}
 use Rattle.units.proofs.rows.fetch_row.Statement.{statement}

@@ -3,7 +3,7 @@ use Prim.Native.Nat.{_+_}
 use native.Mathlib.Omega.{arith}
 use lib.Dec.{ltb}
 use borrow.Author.Needs.{needs}
-use Rattle.units.specs.States.{operationOf}
+use Rattle.refusals.specs.Given.{operationOf}
 use Rattle.units.proofs.Edges.{border-high, below-high}
 use Rattle.units.proofs.rows.is_own.Statement.{statement}
 use Rattle.units.proofs.rows.is_own.Tie as tie

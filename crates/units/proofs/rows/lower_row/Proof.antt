@@ -3,7 +3,7 @@ use mathlib.Core.Path.{_∙_}
 use Prim.Native.Nat.{_-_}
 use native.Mathlib.Omega.{arith}
 use borrow.Author.Needs.{needs}
-use Rattle.units.specs.States.{operationOf}
+use Rattle.refusals.specs.Given.{operationOf}
 use Rattle.units.proofs.Edges.{bit-is, plane-row, bottom-row}
 use Rattle.units.proofs.Sources.{plane-inside, bottom-inside, own-fits, plane-fits, bottom-fits, own-is, plane-is, bottom-is, last-is}
 use Rattle.units.proofs.rows.lower_row.Statement.{statement}

@@ -7,7 +7,7 @@ use borrow.Author.Needs.{needs}
 use Rattle.definition.specs.Units.{border}
 use Rattle.model.specs.Rows.{first-low}
 use Rattle.model.specs.Opening.{filled}
-use Rattle.units.specs.States.{operationOf, givenOf}
+use Rattle.refusals.specs.Given.{operationOf, givenOf}
 use Rattle.units.specs.Windows.{rowsLent}
 use Rattle.units.proofs.Edges.{border-high}
 use Rattle.units.proofs.Rings.{filled-none, filled-more}

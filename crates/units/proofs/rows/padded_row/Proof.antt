@@ -5,7 +5,7 @@ use native.Mathlib.Omega.{arith}
 use borrow.Author.Needs.{needs}
 use Rattle.definition.specs.Units.{border}
 use Rattle.model.specs.Rows.{padRow}
-use Rattle.units.specs.States.{operationOf}
+use Rattle.refusals.specs.Given.{operationOf}
 use Rattle.units.proofs.Sources.{top-inside, top-fits, top-is}
 use Rattle.units.proofs.rows.padded_row.Statement.{statement}
 use Rattle.units.proofs.rows.padded_row.Tie as tie

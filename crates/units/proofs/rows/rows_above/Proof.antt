@@ -1,7 +1,7 @@
 -- `units::rows::rows_above` meets its contract: the rows by the two bits, as `Edges` has them. Assumes nothing.
 use mathlib.Core.Path.{_∙_}
 use borrow.Author.Needs.{needs}
-use Rattle.units.specs.States.{operationOf}
+use Rattle.refusals.specs.Given.{operationOf}
 use Rattle.units.proofs.Edges.{top-integrated, top-saved, top-none}
 use Rattle.units.proofs.rows.rows_above.Statement.{statement}
 use Rattle.units.proofs.rows.rows_above.Tie as tie

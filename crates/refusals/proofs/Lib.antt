@@ -1,0 +1,3 @@
+pub mod Chosen
+pub mod Every
+pub mod Refused

@@ -1,0 +1,40 @@
+-- `refusals::bad_kept` meets its contract: by whether the operation has classes. Assumes nothing.
+use mathlib.Core.Path.{_≡_, refl, sym, _∙_}
+use mathlib.Core.Bool.{false, not}
+use Prim.Native.Nat.{_/_}
+use lib.Dec.{ltb}
+use Rattle.definition.specs.Units.{setSize}
+use Rattle.definition.specs.Refusals.{firstPass, badKept}
+use Rattle.refusals.specs.Given.{operationOf}
+use Rattle.refusals.proofs.Chosen.{when-classed, unless-classed}
+use borrow.Author.Needs.{needs}
+use Rattle.refusals.proofs.bad_kept.Statement.{statement}
+use Rattle.refusals.proofs.bad_kept.Tie as tie
+
+is-classed-requires : tie.Need-is-classed-requires
+is-classed-requires c κs = search needs
+
+set-size-requires : tie.Need-set-size-requires
+set-size-requires c κs = search needs
+
+past-filters-requires : tie.Need-past-filters-requires
+past-filters-requires c κs = search needs
+
+returns : tie.Need-returns
+returns c =
+    let a = c .before .before .before .before .args in
+    let d = c .before .set-size .ensures .0 in
+    c .past-filters .ensures ∙
+    (rw d
+    (when-classed (λ o. not (firstPass (λ k. ltb k (a .filters / setSize o)) 16 (a .classes .now)) ≡ badKept o (a .classes .now) (a .filters)) refl refl (operationOf (a .op))
+    (sym (c .before .before .before .is-classed .ensures) ∙ c .before .before .if1 .taken)))
+
+returns-2 : tie.Need-returns-2
+returns-2 c =
+    let a = c .before .before .args in
+    unless-classed (λ o. false ≡ badKept o (a .classes .now) (a .filters)) refl refl (operationOf (a .op)) (sym (c .before .is-classed .ensures) ∙ c .if1 .left)
+
+pub bad-kept-spec : {M : Type 1} → statement M
+bad-kept-spec =
+    tie.close
+    (tie.spec is-classed-requires set-size-requires past-filters-requires returns returns-2)
