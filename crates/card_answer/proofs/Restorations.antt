@@ -20,8 +20,9 @@ use Rattle.laws.proofs.Checks.{cleared}
 use Rattle.card_reader.proofs.Cards.{sized-le}
 use Rattle.refusals.specs.Given.{givenOf}
 use Rattle.units.specs.Luma.{lumaLent, numbersY}
-use Rattle.units.specs.Openings.{openStatus, Whole}
-use Rattle.units.specs.declared.Restored.{Restored}
+use Rattle.units.specs.Openings.{openStatus}
+use Rattle.whole.specs.Whole.{Whole}
+use Rattle.whole.specs.declared.Restored.{Restored}
 use Rattle.card_answer.specs.Answers.{planeOf}
 
 sized-low : (limit n : ℕ) → sized limit n ≡ true → side ≤ n

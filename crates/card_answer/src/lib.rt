@@ -51,7 +51,7 @@ fn restore(w: usize, h: usize, filter: &[i8], skip: &[u16], p: &mut [u8]) -> usi
 {
     let none = [0u8; 0];
     let n = w * h;
-    let r = units::ns_wiener_single_y_8bpc(
+    let r = whole::ns_wiener_single_y_8bpc(
         &mut p[..n],
         0,
         w,

@@ -1,10 +1,12 @@
 -- A bend, where its three samples stand, and the sums of bends. Assumes nothing.
 use mathlib.Core.Path.{_≡_, refl, sym, ap, _∙_}
-use Prim.Native.Nat.{ℕ, zero, suc, _+_, _-_, _*_, _≤_}
+use Prim.Native.Nat.{ℕ, zero, suc, _+_, _-_, _*_, _≤_, _<_}
 use mathlib.Core.List.{List}
 use native.Mathlib.Omega.{arith}
 use lib.IntN.{ℤ, pos, negsuc, natAbs, _+ℤ_, _-ℤ_, +ℤ-assoc, +ℤ-idr}
 use lib.ListN.{getD}
+use mir.Syntax.{w64}
+use mir.Val.{Fits}
 use Rattle.definition.specs.Numbers.{sumN}
 use Rattle.class_index.specs.Answers.{blockFlat, bendAt, Added}
 use Rattle.laws.proofs.Ints.{sub-cases}
@@ -106,3 +108,24 @@ module _ {s : ℤ → ℤ → ℕ} {d : ℤ} where
   row-added {i} {j} {n} e h =
       let is : n ≡ sumN i (λ r. sumN 6 (bendAt s d r)) + sumN 6 (bendAt s d i) = rw e at (h .is) in
       record { is = is ∙ sumN-suc (λ r. sumN 6 (bendAt s d r)) i ∙ omega arith; small = omega (arith, h .small) }
+
+-- A PLACE in column j of the six around a block, and its neighbours: inside rows of 760 bytes
+module _ {r bx j : ℕ} (near : r ≤ 684 + (5 + 4 * bx)) (column : bx ≤ 15) (of-six : j < 6) where
+  pub here-fits : Fits w64 (r + j)
+  here-fits = omega arith
+
+  pub next-fits : Fits w64 (r + j + 1)
+  next-fits = omega arith
+
+  module _ {len : ℕ} (long : 760 ≤ len) where
+    pub here-in : r + j < len
+    here-in = omega arith
+
+    pub next-in : r + j + 1 < len
+    next-in = omega arith
+
+    pub before-in : r + j - 1 < len
+    before-in = omega arith
+
+pub some-before : (n : ℕ) {r bx j : ℕ} → bx ≤ 15 → j < 6 → r ≡ 76 * n + (5 + 4 * bx) → 1 ≤ r + j
+some-before n column of-six e = omega arith

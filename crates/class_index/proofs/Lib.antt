@@ -1,5 +1,3 @@
-pub mod Terms
-pub mod Clips
 pub mod Bends
 pub mod Skips
 pub mod Statuses

@@ -17,15 +17,6 @@ use Rattle.definition.specs.Refusals.{rowsSize, indicesUpTo}
 abbrev pub blockFlat : List ℕ → List ℕ → ℕ → ℤ → ℤ → ℕ
 blockFlat rows indices bx = lumaFlat rows indices (rowOrigin + side * bx)
 
--- the same of a number with a sign
-abbrev pub orZeroZ : ℕ → ℤ → ℤ
-orZeroZ zero z = z
-orZeroZ (suc status) z = pos 0
-
--- a term past the fourth is outside
-abbrev pub termStatus : ℕ → ℕ
-termStatus i = outsideUnless (ltb i 4)
-
 -- the features of a block: rows under 760 bytes, a row index over 9 or a block column over 15 are outside
 unfoldable pub featuresStatus : ℕ → List ℕ → ℕ → ℕ
 featuresStatus rows indices bx = outsideUnless (leb rowsSize rows && indicesUpTo 9 indices && leb bx lastColumn)

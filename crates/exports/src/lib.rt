@@ -6,13 +6,14 @@ ghost use mathlib.Core.Path.{_≡_};
 ghost use lib.ListN.{length};
 ghost use Rattle.definition.specs.ClassIndex.{term, classIndex};
 ghost use Rattle.definition.specs.Refusals.{classStatus};
-ghost use Rattle.class_index.specs.Answers.{termStatus, orZeroZ, blockFlat};
+ghost use Rattle.class_index.specs.Answers.{blockFlat};
+ghost use Rattle.qval.specs.Answers.{termStatus, orZeroZ};
 ghost use Rattle.definition.specs.Rows.{orZero};
 ghost use Rattle.padding.specs.Padded.{backupStatus, backupRow, lpfStatus, lpfRow, lumaStatus, lumaRow, source};
 ghost use Rattle.units.specs.Operations.{isFinished};
 ghost use Rattle.filter.specs.Runs.{runStatus, uvStatus, lumaRun, pretrainedRun, chromaRun};
 use class_index::ClassIndex;
-use class_index::Qval;
+use qval::Qval;
 use units::State;
 
 pub mod advance_c;
@@ -147,7 +148,7 @@ pub extern "C" fn gihvendu_backup_row_luma_8bpc<'a>(
 pub extern "C" fn gihvendu_get_qval_given_tskip(qstep: i32, tskip: u8, i: usize) -> Qval
     ensures { λ r. ⌜ (r .status ≡ termStatus i) × (r .value ≡ orZeroZ (termStatus i) (term qstep tskip i)) ⌝ }
 {
-    class_index::get_qval_given_tskip(qstep, tskip, i)
+    qval::get_qval_given_tskip(qstep, tskip, i)
 }
 
 #[no_mangle]

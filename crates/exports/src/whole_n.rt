@@ -1,8 +1,8 @@
 ghost use Rattle.definition.specs.Units.{user};
-ghost use Rattle.units.specs.Openings.{Whole};
+ghost use Rattle.whole.specs.Whole.{Whole};
 ghost use Rattle.units.specs.Classed.{classedLent};
 ghost use Rattle.units.specs.Luma.{numbersY};
-use units::Restored;
+use whole::Restored;
 
 #[no_mangle]
 pub extern "C" fn gihvendu_ns_wiener_multi_8bpc(
@@ -26,7 +26,7 @@ pub extern "C" fn gihvendu_ns_wiener_multi_8bpc(
 ) -> Restored
     ensures { λ r. ⌜ Whole user r (numbersY w h edges stride «p_off» «lpf_off» «lpf_bottom_off») (classedLent (now (left .entry)) (now (lpf .entry)) (now («lpf_bottom» .entry)) (now (filters .entry)) (now (map .entry)) (now (subclass .entry)) (now (noskip .entry)) (now (skip .entry)) «base_q») (now (p .entry)) (now (p .exit)) ⌝ }
 {
-    units::ns_wiener_multi_8bpc(
+    whole::ns_wiener_multi_8bpc(
         p,
         p_off,
         stride,

@@ -1,7 +1,7 @@
 ghost use Rattle.definition.specs.Units.{luma};
-ghost use Rattle.units.specs.Openings.{Whole};
+ghost use Rattle.whole.specs.Whole.{Whole};
 ghost use Rattle.units.specs.Luma.{lumaLent, numbersY};
-use units::Restored;
+use whole::Restored;
 
 #[no_mangle]
 pub extern "C" fn gihvendu_ns_wiener_single_y_8bpc(
@@ -21,7 +21,7 @@ pub extern "C" fn gihvendu_ns_wiener_single_y_8bpc(
 ) -> Restored
     ensures { λ r. ⌜ Whole luma r (numbersY w h edges stride «p_off» «lpf_off» «lpf_bottom_off») (lumaLent (now (left .entry)) (now (lpf .entry)) (now («lpf_bottom» .entry)) (now (filter .entry)) (now (skip .entry))) (now (p .entry)) (now (p .exit)) ⌝ }
 {
-    units::ns_wiener_single_y_8bpc(
+    whole::ns_wiener_single_y_8bpc(
         p,
         p_off,
         stride,

@@ -20,7 +20,7 @@ use Rattle.refusals.specs.Given.{givenOf}
 use Rattle.units.specs.Operations.{Call, answer, Answered}
 use Rattle.units.specs.Openings.{Begun, openStatus, openState}
 use Rattle.units.specs.Advances.{callOf}
-use Rattle.units.specs.Wholes.{unit}
+use Rattle.units.specs.Histories.{unit}
 use Rattle.units.specs.LumaHistory.{luma-history}
 use Rattle.paused.specs.declared.Paused.{Paused}
 use Rattle.paused.specs.Paused.{heldSample, Whole}

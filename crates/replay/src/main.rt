@@ -8,7 +8,7 @@ mod numbers;
 mod restore;
 
 use lists::Unit;
-use units::Restored;
+use whole::Restored;
 
 fn run_chroma(
     u: Unit,

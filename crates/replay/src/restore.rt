@@ -2,7 +2,7 @@
 use crate::lists::Luma;
 use crate::lists::Unit;
 use crate::numbers::below;
-use units::Restored;
+use whole::Restored;
 
 fn first_refusal(a: u8, b: u8) -> u8 {
     if a != 0 { a } else { b }
@@ -70,7 +70,7 @@ pub fn luma(
     if in_advances(u.k) {
         return luma_in_advances(u, p, left, top, bottom, filter, skip);
     }
-    units::ns_wiener_single_y_8bpc(
+    whole::ns_wiener_single_y_8bpc(
         p,
         u.off,
         u.stride,
@@ -171,7 +171,7 @@ pub fn user(
             skip,
         );
     }
-    units::ns_wiener_multi_8bpc(
+    whole::ns_wiener_multi_8bpc(
         p,
         u.off,
         u.stride,
@@ -276,7 +276,7 @@ pub fn pretrained(
             skip,
         );
     }
-    units::pc_wiener_8bpc(
+    whole::pc_wiener_8bpc(
         p,
         u.off,
         u.stride,
@@ -386,7 +386,7 @@ pub fn chroma<'a>(
             skip,
         );
     }
-    units::ns_wiener_single_uv_8bpc(
+    whole::ns_wiener_single_uv_8bpc(
         p,
         u.off,
         u.stride,

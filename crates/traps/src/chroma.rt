@@ -22,7 +22,7 @@ fn c<'a>(
     fill(plane, 0);
     let skip = [0u16; 64];
     let none = [0u8; 1];
-    let r = units::ns_wiener_single_uv_8bpc(
+    let r = whole::ns_wiener_single_uv_8bpc(
         plane,
         0,
         68,

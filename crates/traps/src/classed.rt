@@ -24,7 +24,7 @@ fn n(
     let skip = [0u16; 64];
     let noskip = [mask; 16];
     let none = [0u8; 1];
-    let r = units::ns_wiener_multi_8bpc(
+    let r = whole::ns_wiener_multi_8bpc(
         plane,
         0,
         68,
@@ -64,7 +64,7 @@ fn p(
     let skip = [0u16; 64];
     let noskip = [mask; 16];
     let none = [0u8; 1];
-    let r = units::pc_wiener_8bpc(
+    let r = whole::pc_wiener_8bpc(
         plane,
         0,
         68,

@@ -88,7 +88,7 @@ pub fn print_title(name: &[u8], w: usize, h: usize, edges: usize) {
 }
 
 // The rows of the rectangle; of a refused unit four samples of four rows, which are as they were.
-pub fn print_answer(r: units::Restored, plane: &[u8], stride: usize, w: usize, h: usize) {
+pub fn print_answer(r: whole::Restored, plane: &[u8], stride: usize, w: usize, h: usize) {
     print_number(b"\nstatus=", r.status as usize);
     print_number(b"\nfiltered=", r.pieces);
     io::write_all(1, b"\n");

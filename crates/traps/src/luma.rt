@@ -29,7 +29,7 @@ fn y(
     fill(plane, 0);
     let skip = [0u16; 64];
     let none = [0u8; 1];
-    let r = units::ns_wiener_single_y_8bpc(
+    let r = whole::ns_wiener_single_y_8bpc(
         plane,
         0,
         68,
@@ -71,7 +71,7 @@ fn row_above() {
     let filter = [64i8, 0, 0, 0, 0, 0, 0, 0, 0, 0, 0, 0, 0, 0, 0, 0];
     let skip = [0u16; 4];
     let none = [0u8; 1];
-    let r = units::ns_wiener_single_y_8bpc(
+    let r = whole::ns_wiener_single_y_8bpc(
         &mut p,
         0,
         4,

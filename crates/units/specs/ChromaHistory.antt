@@ -31,7 +31,7 @@ use Rattle.units.specs.Cells.{chromaCell}
 use Rattle.units.specs.Operations.{units, statusOf, tookOwn, tookLuma, chromaState, chromaPlane}
 use Rattle.units.specs.Openings.{openState, openStatus, openOwn, openLuma}
 use Rattle.units.specs.Advances.{callOf, passed}
-use Rattle.units.specs.Wholes.{frameOf, Histories}
+use Rattle.units.specs.Histories.{frameOf, Histories}
 
 -- the slot of row R of five
 abbrev pub slot : ℕ → ℕ

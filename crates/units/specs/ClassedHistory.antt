@@ -29,7 +29,7 @@ use Rattle.laws.proofs.Passes.{both, pass-all}
 use Rattle.model.specs.Fine.{Fine, fine, row-room, not-both, not-not}
 use Rattle.laws.proofs.Ints.{never}
 use Rattle.model.specs.Opening.{openRing, opens, filled, filled-size, openIndex}
-use Rattle.units.specs.Wholes.{frameOf, Histories}
+use Rattle.units.specs.Histories.{frameOf, Histories}
 use Rattle.units.specs.Cells.{userCell, pretrainedCell}
 use Rattle.definition.specs.Sample.{limit8, lumaSample, pretrainedSample}
 use Rattle.history.specs.Theorem.{Given as Shown, theorem}

@@ -4,7 +4,7 @@ pub mod Open
 pub mod Operations
 pub mod Openings
 pub mod Advances
-pub mod Wholes
+pub mod Histories
 pub mod Classed
 pub mod ClassedRows
 pub mod Chroma

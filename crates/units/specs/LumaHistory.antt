@@ -28,7 +28,7 @@ use Rattle.units.specs.Cells.{lumaCell}
 use Rattle.units.specs.Operations.{units, statusOf, took, lumaState, lumaPlane}
 use Rattle.units.specs.Openings.{openState, openStatus}
 use Rattle.units.specs.Advances.{callOf, passed}
-use Rattle.units.specs.Wholes.{frameOf, Histories}
+use Rattle.units.specs.Histories.{frameOf, Histories}
 
 -- the slot of row R of nine
 abbrev pub slot : ℕ → ℕ

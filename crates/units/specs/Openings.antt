@@ -1,12 +1,10 @@
 -- Opening a unit of each kind, and what the whole-unit operations promise.
 use mathlib.Core.Path.{_≡_}
-use mathlib.Core.Logic.{_≢_}
 use mathlib.Core.List.{List, [], _∷_, _++_}
-use Prim.Native.Nat.{ℕ, zero, suc, _+_, _*_, _/_, _<_}
-use lib.ListN.{length, getD, replicate}
+use Prim.Native.Nat.{ℕ, zero, suc, _+_}
+use lib.ListN.{replicate}
 use Rattle.definition.specs.Rows.{lumaRowBytes}
-use Rattle.definition.specs.Blocks.{side, piecesOf}
-use Rattle.definition.specs.Units.{Operation, luma, user, pretrained, chroma, Lent, finalSample}
+use Rattle.definition.specs.Units.{Operation, luma, user, pretrained, chroma, Lent}
 use Rattle.definition.specs.Refusals.{sizesOf, unitStatus}
 use Rattle.history.specs.Ring.{Ring}
 use Rattle.model.specs.Rows.{firstRow}
@@ -15,7 +13,6 @@ use Rattle.model.specs.LumaRows.{lumaPadRow}
 use Rattle.refusals.specs.declared.Numbers.{Numbers}
 use Rattle.units.specs.declared.State.{State}
 use Rattle.units.specs.declared.Opened.{Opened}
-use Rattle.units.specs.declared.Restored.{Restored}
 use Rattle.refusals.specs.Given.{givenOf}
 use Rattle.units.specs.Windows.{ring}
 use Rattle.units.specs.Operations.{numberOf}
@@ -91,15 +88,3 @@ stateUnless (suc status) s = noState
 pub record Begun (op : Operation) (r : Opened) (n : Numbers) (l : Lent) (p : List ℕ) : Type 0 where
   pub status : r .status ≡ openStatus op n l p
   pub state : r .state ≡ stateUnless (openStatus op n l p) (openState op n l p)
-
--- THE WHOLE UNIT: where it is not declined each sample of the rectangle is the final one, and every other byte is as it was
-pub record Final (op : Operation) (n : Numbers) (l : Lent) (p q : List ℕ) : Type 0 where
-  pub size : length q ≡ length p
-  pub here : (y x : ℕ) → y < n .h → x < n .w → getD q (n .off + y * n .stride + x) 0 ≡ finalSample (givenOf n) l p op y x
-  pub other : (i : ℕ) → ((y x : ℕ) → y < n .h → x < n .w → i ≢ n .off + y * n .stride + x) → getD q i 0 ≡ getD p i 0
-
-pub record Whole (op : Operation) (r : Restored) (n : Numbers) (l : Lent) (p q : List ℕ) : Type 0 where
-  pub status : r .status ≡ openStatus op n l p
-  pub pieces : openStatus op n l p ≡ 0 → r .pieces ≡ piecesOf (l .skip) (n .w / side) 0 (n .h)
-  pub plane : openStatus op n l p ≡ 0 → Final op n l p q
-  pub none : openStatus op n l p ≢ 0 → (r .pieces ≡ 0) × (q ≡ p)

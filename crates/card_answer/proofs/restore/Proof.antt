@@ -9,7 +9,7 @@ use Rattle.card_answer.proofs.restore.Statement.{statement}
 use Rattle.card_answer.proofs.restore.Tie as tie
 use Rattle.card_answer.proofs.restore.Reads as reads
 use Rattle.card_answer.proofs.restore.Lts as lts
-use Rattle.units.proofs.ns_wiener_single_y_8bpc.Reads as ns-wiener-single-y-8bpc-reads
+use Rattle.whole.proofs.ns_wiener_single_y_8bpc.Reads as ns-wiener-single-y-8bpc-reads
 
 -- src/rt:53:13
 mul-n : tie.Need-mul-n

@@ -6,8 +6,8 @@ use mir.Val.{toZ, ofZ}
 use mir.Facts.{toZ-ofZ}
 use Rattle.definition.specs.Numbers.{toI32}
 use Rattle.definition.specs.ClassIndex.{term, bin}
-use Rattle.class_index.proofs.Terms.{term-passed}
-use Rattle.class_index.proofs.Clips.{bin-of}
+use Rattle.qval.proofs.Terms.{term-passed}
+use Rattle.qval.proofs.Clips.{bin-of}
 use borrow.Author.Needs.{needs}
 use Rattle.class_index.proofs.feature_bin.Statement.{statement}
 use Rattle.class_index.proofs.feature_bin.Tie as tie

@@ -1,11 +1,12 @@
 -- `class_index::feature_row` meets its contract: after j columns each sum has the bends of the rows before and of j columns of row i.
 -- Assumes nothing.
 use mathlib.Core.Path.{_≡_, refl, _∙_}
-use Prim.Native.Nat.{_-_, _≤_}
+use Prim.Native.Nat.{_+_, _-_, _≤_}
 use native.Mathlib.Omega.{arith}
 use lib.IntN.{pos, negsuc}
+use lib.ListN.{getD}
 use Rattle.class_index.specs.Answers.{blockFlat, Added}
-use Rattle.class_index.proofs.Bends.{vertical-at, falling-at, rising-at, one-added, row-added}
+use Rattle.class_index.proofs.Bends.{here-fits, next-fits, here-in, next-in, before-in, some-before, vertical-at, falling-at, rising-at, one-added, row-added}
 use Rattle.class_index.proofs.feature_row.Statement.{statement}
 use Rattle.class_index.proofs.feature_row.Tie as tie
 
@@ -59,40 +60,40 @@ loop-holds c =
     (omega arith, p .vertical, p .falling, p .rising)
 
 add-u : tie.Need-add-u Inv-loop μ-loop
-add-u c = omega arith
+add-u c = here-fits (c .before .before .before .before .place .ensures .1) (c .before .before .before .before .before .before .pre .0 .1) (c .loop-test .taken)
 
 add-m : tie.Need-add-m Inv-loop μ-loop
-add-m c = omega arith
+add-m c = here-fits (c .before .before .before .place2 .ensures .1) (c .before .before .before .before .before .before .pre .0 .1) (c .loop-test .taken)
 
 add-d : tie.Need-add-d Inv-loop μ-loop
-add-d c = omega arith
+add-d c = here-fits (c .before .before .place3 .ensures .1) (c .before .before .before .before .before .before .pre .0 .1) (c .loop-test .taken)
 
 bend-at-requires : tie.Need-bend-at-requires Inv-loop μ-loop
-bend-at-requires c κs = omega arith
+bend-at-requires c κs = (here-in (c .before .before .before .before .place .ensures .1) (c .before .before .before .before .before .before .pre .0 .1) (c .loop-test .taken) (c .before .before .before .before .before .before .pre .0 .0), here-in (c .before .before .before .place2 .ensures .1) (c .before .before .before .before .before .before .pre .0 .1) (c .loop-test .taken) (c .before .before .before .before .before .before .pre .0 .0), here-in (c .before .before .place3 .ensures .1) (c .before .before .before .before .before .before .pre .0 .1) (c .loop-test .taken) (c .before .before .before .before .before .before .pre .0 .0))
 
 add-vertical : tie.Need-add-vertical Inv-loop μ-loop
 add-vertical c = omega arith
 
 add-bend-at : tie.Need-add-bend-at Inv-loop μ-loop
-add-bend-at c = omega arith
+add-bend-at c = next-fits (c .before .before .before .before .before .place .ensures .1) (c .before .before .before .before .before .before .before .pre .0 .1) (c .before .loop-test .taken)
 
 sub-bend-at : tie.Need-sub-bend-at Inv-loop μ-loop
-sub-bend-at c = omega arith
+sub-bend-at c = let a = c .before .before .before .before .before .before .before .args in some-before (getD (a .indices .now) (a .i + 4) 0) (c .before .before .before .before .before .before .before .pre .0 .1) (c .before .loop-test .taken) (c .before .before .before .place3 .ensures .0)
 
 bend-at-requires-2 : tie.Need-bend-at-requires-2 Inv-loop μ-loop
-bend-at-requires-2 c κs = omega arith
+bend-at-requires-2 c κs = (next-in (c .before .before .before .before .before .place .ensures .1) (c .before .before .before .before .before .before .before .pre .0 .1) (c .before .loop-test .taken) (c .before .before .before .before .before .before .before .pre .0 .0), here-in (c .before .before .before .before .place2 .ensures .1) (c .before .before .before .before .before .before .before .pre .0 .1) (c .before .loop-test .taken) (c .before .before .before .before .before .before .before .pre .0 .0), before-in (c .before .before .before .place3 .ensures .1) (c .before .before .before .before .before .before .before .pre .0 .1) (c .before .loop-test .taken) (c .before .before .before .before .before .before .before .pre .0 .0))
 
 add-falling : tie.Need-add-falling Inv-loop μ-loop
 add-falling c = omega arith
 
 sub-bend-at-2 : tie.Need-sub-bend-at-2 Inv-loop μ-loop
-sub-bend-at-2 c = omega arith
+sub-bend-at-2 c = let a = c .before .before .before .before .before .before .before .before .args in some-before (getD (a .indices .now) (a .i + 2) 0) (c .before .before .before .before .before .before .before .before .pre .0 .1) (c .before .before .loop-test .taken) (c .before .before .before .before .before .before .place .ensures .0)
 
 add-bend-at-2 : tie.Need-add-bend-at-2 Inv-loop μ-loop
-add-bend-at-2 c = omega arith
+add-bend-at-2 c = next-fits (c .before .before .before .before .place3 .ensures .1) (c .before .before .before .before .before .before .before .before .pre .0 .1) (c .before .before .loop-test .taken)
 
 bend-at-requires-3 : tie.Need-bend-at-requires-3 Inv-loop μ-loop
-bend-at-requires-3 c κs = omega arith
+bend-at-requires-3 c κs = (before-in (c .before .before .before .before .before .before .place .ensures .1) (c .before .before .before .before .before .before .before .before .pre .0 .1) (c .before .before .loop-test .taken) (c .before .before .before .before .before .before .before .before .pre .0 .0), here-in (c .before .before .before .before .before .place2 .ensures .1) (c .before .before .before .before .before .before .before .before .pre .0 .1) (c .before .before .loop-test .taken) (c .before .before .before .before .before .before .before .before .pre .0 .0), next-in (c .before .before .before .before .place3 .ensures .1) (c .before .before .before .before .before .before .before .before .pre .0 .1) (c .before .before .loop-test .taken) (c .before .before .before .before .before .before .before .before .pre .0 .0))
 
 add-rising : tie.Need-add-rising Inv-loop μ-loop
 add-rising c = omega arith

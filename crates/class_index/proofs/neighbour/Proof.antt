@@ -11,7 +11,7 @@ use mir.Facts.{toZ-ofZ}
 use borrow.Author.Needs.{needs}
 use Rattle.definition.specs.Numbers.{clipZ}
 use Rattle.laws.proofs.Held.{Held, natural, plus, plus-fits, minus, minus-fits, addB, subB}
-use Rattle.class_index.proofs.Clips.{clip-from-zero, less-one}
+use Rattle.qval.proofs.Clips.{clip-from-zero, less-one}
 use Rattle.class_index.proofs.neighbour.Statement.{statement}
 use Rattle.class_index.proofs.neighbour.Tie as tie
 

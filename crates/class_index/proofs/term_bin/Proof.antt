@@ -4,8 +4,8 @@ use lib.Dec.{lit<}
 use mir.Syntax.{w32}
 use mir.Val.{toZ, ofZ}
 use Rattle.definition.specs.ClassIndex.{term, bin}
-use Rattle.class_index.proofs.Terms.{term-passed}
-use Rattle.class_index.proofs.Clips.{bin-of}
+use Rattle.qval.proofs.Terms.{term-passed}
+use Rattle.qval.proofs.Clips.{bin-of}
 use borrow.Author.Needs.{needs}
 use Rattle.class_index.proofs.term_bin.Statement.{statement}
 use Rattle.class_index.proofs.term_bin.Tie as tie
