@@ -172,8 +172,8 @@ def program_sites(file, text):
 
 # ---- the definition
 
-ABOVE = ('samples laws vectors intops bounds blocks history model card_reader class_rows padding class_index filter units'
-         ' card_answer paused exports').split()
+ABOVE = ('samples laws vectors intops bounds blocks history model card_reader class_rows padding qval class_index filter refusals units'
+         ' whole card_answer paused exports').split()
 RULE = re.compile(r'[()]|"(?:\\.|[^"\\])*"|[^\s();]+|;')
 TURNED = {'ltb': ['leb'], 'leb': ['ltb'], '+': ['-'], '-': ['+'], '*': ['+'], '/': ['%'], '%': ['/'], '+ℤ': ['-ℤ'], '-ℤ': ['+ℤ'], '*ℤ': ['+ℤ'],
           '&&': ['||'], '||': ['&&'], 'min': ['max'], 'true': ['false'], 'false': ['true'], 'not': [''], 'pos': ['negsuc'], 'negsuc': ['pos']}

@@ -1,6 +1,6 @@
-// Tests of places against lengths, for all 64-bit numbers: nothing wraps.
+// Tests of places against lengths, and the lesser of two, for all 64-bit numbers: nothing wraps.
 ghost use mathlib.Core.Path.{_≡_};
-ghost use Prim.Native.Nat.{_+_};
+ghost use Prim.Native.Nat.{_+_, min};
 ghost use lib.Dec.{leb};
 ghost use Rattle.definition.specs.Refusals.{indicesUpTo};
 
@@ -30,4 +30,10 @@ pub fn indices_up_to(indices: &[usize; 10], limit: usize) -> bool
         k += 1;
     }
     true
+}
+
+pub fn least(a: usize, b: usize) -> usize
+    ensures { λ r. ⌜ r ≡ min a b ⌝ }
+{
+    if a < b { a } else { b }
 }

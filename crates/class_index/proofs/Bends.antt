@@ -1,6 +1,6 @@
 -- A bend, where its three samples stand, and the sums of bends. Assumes nothing.
 use mathlib.Core.Path.{_≡_, refl, sym, ap, _∙_}
-use Prim.Native.Nat.{ℕ, zero, suc, _+_, _-_, _*_, _≤_, _<_}
+use Prim.Native.Nat.{ℕ, _+_, _-_, _*_, _≤_, _<_}
 use mathlib.Core.List.{List}
 use native.Mathlib.Omega.{arith}
 use lib.IntN.{ℤ, pos, negsuc, natAbs, _+ℤ_, _-ℤ_, +ℤ-assoc, +ℤ-idr}
@@ -11,17 +11,6 @@ use Rattle.definition.specs.Numbers.{sumN}
 use Rattle.class_index.specs.Answers.{blockFlat, bendAt, Added}
 use Rattle.laws.proofs.Ints.{sub-cases}
 use Rattle.laws.proofs.Sums.{sumN-suc}
-
--- | u - m + d | is what the larger of u + d and m is over the other
-pub distance : (u m d : ℕ) → natAbs (pos u -ℤ pos m +ℤ pos d) ≡ (u + d - m) + (m - (u + d))
-distance u zero d = omega arith
-distance u (suc m) d =
-    sub-cases u (suc m) (λ (z : ℤ). natAbs (z +ℤ pos d) ≡ (u + d - suc m) + (suc m - (u + d)))
-    (λ h.
-    sub-cases d (suc (suc m - suc u)) (λ (z : ℤ). natAbs z ≡ (u + d - suc m) + (suc m - (u + d)))
-    (λ k. omega arith)
-    (λ k. omega arith))
-    (λ h. omega arith)
 
 -- a place that is a + z, and the places one before it and one behind it
 module _ (a : ℕ) (z : ℤ) (n : ℕ) where

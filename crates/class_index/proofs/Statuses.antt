@@ -1,6 +1,6 @@
 -- What it says that a status is 0, and what the answers are then and else. Assumes nothing.
-use mathlib.Core.Path.{_≡_, refl, sym, _∙_}
-use mathlib.Core.Bool.{Bool, true, false, cond, _&&_, _||_, not}
+use mathlib.Core.Path.{_≡_, refl, _∙_}
+use mathlib.Core.Bool.{true, cond, _&&_, _||_, not}
 use mathlib.Core.List.{List, [], _∷_}
 use Prim.Native.Nat.{ℕ, zero, suc, _≤_, _<_}
 use native.Mathlib.Omega.{arith}
@@ -10,25 +10,10 @@ use lib.ListN.{length, getD}
 use borrow.Author.Tests.{ltb-false, leb-true, leb-false, not-false}
 use Rattle.definition.specs.Numbers.{sumN}
 use Rattle.definition.specs.ClassIndex.{feature}
-use Rattle.definition.specs.Rows.{outsideUnless}
 use Rattle.definition.specs.Refusals.{indicesUpTo, classStatus}
 use Rattle.class_index.specs.Answers.{featuresStatus, placeStatus, featureSums, Added, Summed}
 use Rattle.definition.specs.Rows.{orZero}
-use Rattle.laws.proofs.Ints.{never}
-use Rattle.laws.proofs.Passes.{both, pass-at}
-
-inside : (b : Bool) → outsideUnless b ≡ 0 → b ≡ true
-inside true e = refl
-inside false e = absurd (omega arith)
-
--- the first check of a list fails, and so do those behind it
-past : (b : Bool) (n rest : ℕ) → 0 < n → cond b n rest ≡ 0 → (b ≡ false) × (rest ≡ 0)
-past true n rest h e = absurd (omega arith)
-past false n rest h e = (refl, e)
-
-neither : (a b : Bool) → (a || b) ≡ false → (a ≡ false) × (b ≡ false)
-neither true b e = absurd (never (sym e))
-neither false b e = (refl, e)
+use Rattle.laws.proofs.Passes.{both, pass-at, inside, first-clear, not-both}
 
 pub indices-small : (indices : List ℕ) → indicesUpTo 9 indices ≡ true → (j : ℕ) → j < 10 → getD indices j 0 ≤ 9
 indices-small indices e j h = leb-true (getD indices j 0) 9 (pass-at (λ i. leb i 9) indices 10 j h e)
@@ -53,13 +38,13 @@ pub record Open (rows : ℕ) (indices : List ℕ) (noskip bx by bh : ℕ) : Type
 pub class-open : (rows : ℕ) (indices : List ℕ) (noskip bx by bh : ℕ) → classStatus rows indices noskip bx by bh ≡ 0 → Open rows indices noskip bx by bh
 unfolding classStatus
 class-open rows indices noskip bx by bh e =
-    let p = past (ltb 15 bx || eqb bh 0 || ltb 16 bh || leb bh by) 12 (cond (ltb rows 760 || not (indicesUpTo 9 indices)) 5 (cond (ltb noskip bh) 9 0)) (omega arith) e in
-    let q = past (ltb rows 760 || not (indicesUpTo 9 indices)) 5 (cond (ltb noskip bh) 9 0) (omega arith) (p .1) in
-    let r = past (ltb noskip bh) 9 0 (omega arith) (q .1) in
-    let a = neither (ltb 15 bx || eqb bh 0 || ltb 16 bh) (leb bh by) (p .0) in
-    let b = neither (ltb 15 bx || eqb bh 0) (ltb 16 bh) (a .0) in
-    let c = neither (ltb 15 bx) (eqb bh 0) (b .0) in
-    let d = neither (ltb rows 760) (not (indicesUpTo 9 indices)) (q .0) in
+    let p = first-clear (ltb 15 bx || eqb bh 0 || ltb 16 bh || leb bh by) 12 (cond (ltb rows 760 || not (indicesUpTo 9 indices)) 5 (cond (ltb noskip bh) 9 0)) (omega arith) e in
+    let q = first-clear (ltb rows 760 || not (indicesUpTo 9 indices)) 5 (cond (ltb noskip bh) 9 0) (omega arith) (p .1) in
+    let r = first-clear (ltb noskip bh) 9 0 (omega arith) (q .1) in
+    let a = not-both (ltb 15 bx || eqb bh 0 || ltb 16 bh) (leb bh by) (p .0) in
+    let b = not-both (ltb 15 bx || eqb bh 0) (ltb 16 bh) (a .0) in
+    let c = not-both (ltb 15 bx) (eqb bh 0) (b .0) in
+    let d = not-both (ltb rows 760) (not (indicesUpTo 9 indices)) (q .0) in
     let line : by < bh = leb-false bh by (a .1) in
     record {
       column = ltb-false 15 bx (c .0);
@@ -81,10 +66,10 @@ pub record Placed (noskip bx by bh : ℕ) : Type 0 where
 pub place-open : (noskip bx by bh : ℕ) → placeStatus noskip bx by bh ≡ 0 → Placed noskip bx by bh
 unfolding placeStatus
 place-open noskip bx by bh e =
-    let p = past (ltb 15 bx || ltb 16 bh || leb bh by) 12 (cond (ltb noskip bh) 9 0) (omega arith) e in
-    let r = past (ltb noskip bh) 9 0 (omega arith) (p .1) in
-    let a = neither (ltb 15 bx || ltb 16 bh) (leb bh by) (p .0) in
-    let b = neither (ltb 15 bx) (ltb 16 bh) (a .0) in
+    let p = first-clear (ltb 15 bx || ltb 16 bh || leb bh by) 12 (cond (ltb noskip bh) 9 0) (omega arith) e in
+    let r = first-clear (ltb noskip bh) 9 0 (omega arith) (p .1) in
+    let a = not-both (ltb 15 bx || ltb 16 bh) (leb bh by) (p .0) in
+    let b = not-both (ltb 15 bx) (ltb 16 bh) (a .0) in
     record { column = ltb-false 15 bx (b .0); line = leb-false bh by (a .1); limit = ltb-false 16 bh (b .1); masks = ltb-false noskip bh (r .0) }
 
 -- a refused call answers zeros

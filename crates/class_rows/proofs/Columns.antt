@@ -1,7 +1,7 @@
 -- A bend by the places of its three samples, in any direction; and a feature by the sums down its columns. Assumes nothing.
 use mathlib.Core.Path.{_≡_, refl, sym, ap, _∙_}
 use mathlib.Core.List.{List}
-use Prim.Native.Nat.{ℕ, zero, suc, _+_, _-_, _*_, _<_}
+use Prim.Native.Nat.{ℕ, suc, _+_, _-_, _*_, _<_}
 use native.Mathlib.Omega.{arith}
 use lib.IntN.{ℤ, pos, natAbs, _+ℤ_, _-ℤ_, negℤ, +ℤ-assoc}
 use lib.ListN.{getD}
@@ -11,17 +11,6 @@ use Rattle.definition.specs.ClassIndex.{bend, feature}
 use Rattle.class_rows.specs.Features.{featureAt, columnBend, columnSum}
 use Rattle.laws.proofs.Ints.{sub-cases, sub-pos, before-pos}
 use Rattle.class_rows.proofs.Sums.{sum-cong, exchanged}
-
--- | u - m + d | is what the larger of u + d and m is over the other
-pub distance : (u m d : ℕ) → natAbs (pos u -ℤ pos m +ℤ pos d) ≡ (u + d - m) + (m - (u + d))
-distance u zero d = omega arith
-distance u (suc m) d =
-    sub-cases u (suc m) (λ (z : ℤ). natAbs (z +ℤ pos d) ≡ (u + d - suc m) + (suc m - (u + d)))
-    (λ h.
-    sub-cases d (suc (suc m - suc u)) (λ (z : ℤ). natAbs z ≡ (u + d - suc m) + (suc m - (u + d)))
-    (λ k. omega arith)
-    (λ k. omega arith))
-    (λ h. omega arith)
 
 -- a place that is a + z, and one that is d further
 further : (a : ℕ) (z d : ℤ) (m n : ℕ) → pos a +ℤ z ≡ pos m → pos n ≡ pos m +ℤ d → pos a +ℤ (z +ℤ d) ≡ pos n

@@ -1,20 +1,14 @@
 -- What a status of 0 says, and what is answered then and else. Assumes nothing.
 use mathlib.Core.Path.{_≡_, refl}
-use mathlib.Core.Bool.{Bool, true, false, _&&_}
+use mathlib.Core.Bool.{_&&_}
 use mathlib.Core.List.{List}
 use Prim.Native.Nat.{ℕ, zero, suc, _≤_}
-use native.Mathlib.Omega.{arith}
 use lib.Dec.{leb}
 use lib.ListN.{length, getD, replicate}
 use borrow.Author.Tests.{leb-true}
-use Rattle.definition.specs.Rows.{outsideUnless}
 use Rattle.definition.specs.Refusals.{indicesUpTo}
-use Rattle.laws.proofs.Passes.{both, pass-at}
+use Rattle.laws.proofs.Passes.{both, pass-at, inside}
 use Rattle.class_rows.specs.Features.{rowStatus, featureRow, served, Rows}
-
-inside : (b : Bool) → outsideUnless b ≡ 0 → b ≡ true
-inside true e = refl
-inside false e = absurd (omega arith)
 
 pub row-open : (rows indices : List ℕ) (n : ℕ) → rowStatus (length rows) indices n ≡ 0 → Rows rows indices × (n ≤ 16)
 unfolding rowStatus

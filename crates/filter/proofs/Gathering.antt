@@ -14,7 +14,7 @@ use Rattle.definition.specs.Sample.{dyOf, dxOf, centre, nsTap, lumaTap, chromaS
 use Rattle.laws.proofs.Ints.{before-pos, sub-pos}
 use Rattle.laws.proofs.Lists.{sets-before, sets-in, length-tab, getD-tab}
 use Rattle.laws.proofs.Tables.{near-at}
-use Rattle.filter.specs.Shapes.{Gathered, every, compactAt, compactTap, compactSum}
+use Rattle.filter.specs.Gathered.{Gathered, every, compactAt, compactTap, compactSum}
 
 -- dy rows from the third of five, and from the eighth of ten indices
 row-place : (dy : ℤ) → natAbs dy ≤ 2 → (natAbs (pos 2 +ℤ dy) < 5) × (5 + natAbs (pos 2 +ℤ dy) ≡ natAbs (pos 7 +ℤ dy))

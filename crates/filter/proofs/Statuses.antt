@@ -1,6 +1,6 @@
 -- What a status of 0 says: each test passed, so the runs stay inside. Assumes nothing.
-use mathlib.Core.Path.{_≡_, refl}
-use mathlib.Core.Bool.{Bool, true, false, _&&_}
+use mathlib.Core.Path.{_≡_}
+use mathlib.Core.Bool.{true, _&&_}
 use mathlib.Core.List.{List}
 use Prim.Native.Nat.{ℕ, _+_, _-_, _*_, _≤_, _<_, min}
 use native.Mathlib.Omega.{arith}
@@ -8,16 +8,11 @@ use native.Mathlib.Nat.{mul-le-mul, le-refl, mul-comm, add-mul}
 use lib.Dec.{leb}
 use lib.ListN.{length, getD}
 use borrow.Author.Tests.{leb-true}
-use Rattle.definition.specs.Rows.{outsideUnless}
 use Rattle.definition.specs.Refusals.{indicesUpTo}
-use Rattle.laws.proofs.Passes.{both, pass-at}
+use Rattle.laws.proofs.Passes.{both, pass-at, inside}
 use Rattle.filter.specs.Runs.{runStatus, uvStatus, windowInside}
 use Rattle.filter.specs.Windows.{ownInside, Rows, Window, Eight}
-use Rattle.filter.specs.Shapes.{Gatherable}
-
-inside : (b : Bool) → outsideUnless b ≡ 0 → b ≡ true
-inside true e = refl
-inside false e = absurd (omega arith)
+use Rattle.filter.specs.Gathered.{Gatherable}
 
 -- ten indices up to a limit lead to rows that lie inside, where limit + 1 rows do
 rows-inside : (first size limit : ℕ) (rows indices : List ℕ) → first + size * limit + size ≤ length rows → indicesUpTo limit indices ≡ true → Rows first size rows indices

@@ -1,3 +1,3 @@
 pub mod Runs
 pub mod Windows
-pub mod Shapes
+pub mod Gathered

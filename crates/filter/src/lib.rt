@@ -3,7 +3,7 @@
 // destination can be taken to change; the last eight end with the rows, so that none leaves them. Their filter is read anew for each eight: the compiler then
 // sees that its numbers are short.
 ghost use mathlib.Core.Path.{_≡_};
-ghost use Prim.Native.Nat.{ℕ, _+_, _*_, _^_, _<_, _≤_, min};
+ghost use Prim.Native.Nat.{ℕ, _+_, _*_, _^_, _<_, _≤_};
 ghost use lib.IntN.{pos, natAbs, _+ℤ_, _-ℤ_, _*ℤ_};
 ghost use lib.ListN.{length, getD};
 ghost use lib.Seq.{sets};
@@ -12,7 +12,8 @@ ghost use Rattle.definition.specs.Rows.{tab, flatAround, lumaFlat, chromaFlat};
 ghost use Rattle.definition.specs.Sample.{limit8, rounded, centre, lumaSample, pretrainedSample};
 ghost use Rattle.filter.specs.Runs.{runStatus, uvStatus, lumaRun, pretrainedRun, chromaRun, coefficients};
 ghost use Rattle.filter.specs.Windows.{ownInside, Rows, Window, Eight, Spot, PairAt, TakenOff, LumaPartial, PretrainedPartial, ChromaPartial};
-ghost use Rattle.filter.specs.Shapes.{every, Gatherable, Gathered, compactAt, compactSum, FromLumaPartial};
+ghost use Rattle.filter.specs.Gathered.{every, Gatherable, Gathered, compactAt, compactSum, FromLumaPartial};
+use bounds::least;
 use tables::PC_WIENER_CONFIG;
 use tables::WIENER_NS_CONFIG_UV;
 use tables::WIENER_NS_CONFIG_UV_FROM_Y;
@@ -213,12 +214,6 @@ fn y_eight(rows: &[u8], indices: &[usize; 10], at: usize, filter: &[i8; 16]) -> 
         j += 1;
     }
     out
-}
-
-fn least(a: usize, b: usize) -> usize
-    ensures { λ r. ⌜ r ≡ min a b ⌝ }
-{
-    if a < b { a } else { b }
 }
 
 // All of eight samples, from byte x of the destination on: one store.

@@ -81,3 +81,14 @@ sub-neg a (suc b) h = sub-cases a (suc b) (λ (z : ℤ). z ≡ negsuc (suc b - s
 -- n places before a, where there are so many
 pub before-pos : (a n : ℕ) → n < a → pos a +ℤ negsuc n ≡ pos (a - suc n)
 before-pos a n h = sub-cases a (suc n) (λ (z : ℤ). z ≡ pos (a - suc n)) (λ l. absurd (not-le-of-lt l h)) (λ l. refl)
+
+-- | u - m + d | is what the larger of u + d and m is over the other
+pub distance : (u m d : ℕ) → natAbs (pos u -ℤ pos m +ℤ pos d) ≡ (u + d - m) + (m - (u + d))
+distance u zero d = omega arith
+distance u (suc m) d =
+    sub-cases u (suc m) (λ (z : ℤ). natAbs (z +ℤ pos d) ≡ (u + d - suc m) + (suc m - (u + d)))
+    (λ h.
+    sub-cases d (suc (suc m - suc u)) (λ (z : ℤ). natAbs z ≡ (u + d - suc m) + (suc m - (u + d)))
+    (λ k. omega arith)
+    (λ k. omega arith))
+    (λ h. omega arith)

@@ -1,6 +1,6 @@
--- Tests over the first n of a list (`firstPass`): a loop that stops at the first that fails, and what a passed test says of each. Assumes nothing.
-use mathlib.Core.Path.{_≡_, refl}
-use mathlib.Core.Bool.{Bool, true, false, _&&_, and-false}
+-- What tests that hold or fail together say; and tests over the first n of a list (`firstPass`): a loop that stops at the first that fails, and what a passed test says of each. Assumes nothing.
+use mathlib.Core.Path.{_≡_, refl, sym}
+use mathlib.Core.Bool.{Bool, true, false, cond, _&&_, _||_, and-false}
 use mathlib.Core.List.{List}
 use Prim.Native.Nat.{ℕ, zero, suc, _+_, _<_}
 use native.Mathlib.Nat.{not-suc-le-zero}
@@ -8,6 +8,7 @@ use native.Mathlib.Decide.{ℕ-discrete}
 use native.Mathlib.Numerals.{add-one}
 use native.Mathlib.Omega.{arith}
 use lib.ListN.{getD}
+use Rattle.definition.specs.Rows.{outsideUnless}
 use Rattle.definition.specs.Refusals.{firstPass}
 use Rattle.laws.proofs.Ints.{never}
 
@@ -16,6 +17,19 @@ pub both : (a b : Bool) → (a && b) ≡ true → (a ≡ true) × (b ≡ true)
 both true true e = (refl, refl)
 both true false e = absurd (never e)
 both false b e = absurd (never e)
+
+-- neither part of a disjunction that fails; a call that is not outside; the first of several conditions does not apply
+pub not-both : (a b : Bool) → (a || b) ≡ false → (a ≡ false) × (b ≡ false)
+not-both true b e = absurd (never (sym e))
+not-both false b e = (refl, e)
+
+pub inside : (b : Bool) → outsideUnless b ≡ 0 → b ≡ true
+inside true e = refl
+inside false e = absurd (omega arith)
+
+pub first-clear : (b : Bool) (n rest : ℕ) → 0 < n → cond b n rest ≡ 0 → (b ≡ false) × (rest ≡ 0)
+first-clear true n rest h e = absurd (omega arith)
+first-clear false n rest h e = (refl, e)
 
 module _ (test : ℕ → Bool) (xs : List ℕ) where
   pub pass-none : firstPass test 0 xs ≡ true

@@ -1,25 +1,17 @@
 -- What a status of 0 says of a unit: each line of the table, turned round. Assumes nothing.
-use mathlib.Core.Path.{_≡_, refl, sym}
+use mathlib.Core.Path.{_≡_}
 use mathlib.Core.Bool.{Bool, true, false, not, _&&_, _||_}
 use Prim.Native.Nat.{ℕ, zero, suc, _+_, _*_, _-_, _%_, _≤_, _<_}
 use native.Mathlib.Nat.{mul-le-mul-right}
 use native.Mathlib.Omega.{arith}
 use lib.Dec.{ltb, leb, eqb}
-use borrow.Author.Tests.{ltb-false, leb-true, eqb-true}
+use borrow.Author.Tests.{ltb-false, leb-true, eqb-true, not-false}
 use Rattle.definition.specs.Padding.{hasLeft}
 use Rattle.definition.specs.Units.{Operation, luma, border, Given}
 use Rattle.definition.specs.Refusals.{Sizes, unitStatus, unitChecks, outside, topRows, bottomRows, planeRows, sized, leftOf, rightOf, badPair, badFilters, badLuma, badLumaStride, badNoskip}
 use Rattle.laws.proofs.Ints.{never}
-use Rattle.laws.proofs.Passes.{both}
+use Rattle.laws.proofs.Passes.{both, not-both}
 use Rattle.laws.proofs.Checks.{clear}
-
-pub not-both : (a b : Bool) → (a || b) ≡ false → (a ≡ false) × (b ≡ false)
-not-both true b e = absurd (never (sym e))
-not-both false b e = (refl, e)
-
-pub not-not : (a : Bool) → not a ≡ false → a ≡ true
-not-not true e = refl
-not-not false e = absurd (never (sym e))
 
 pub unless : (a b : Bool) → (a && b) ≡ false → a ≡ true → b ≡ false
 unless true b e h = e
@@ -46,7 +38,7 @@ pub record Sized (limit n : ℕ) : Type 0 where
 
 pub is-sized : (limit n : ℕ) → not (sized limit n) ≡ false → Sized limit n
 is-sized limit n e =
-    let p = both (eqb (n % 4) 0 && leb 4 n) (leb n limit) (not-not (sized limit n) e) in
+    let p = both (eqb (n % 4) 0 && leb 4 n) (leb n limit) (not-false (sized limit n) e) in
     let q = both (eqb (n % 4) 0) (leb 4 n) (p .0) in
     record { fours = eqb-true (n % 4) 0 (q .0); low = leb-true 4 n (q .1); high = leb-true n limit (p .1) }
 

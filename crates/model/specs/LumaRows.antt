@@ -20,7 +20,7 @@ use Rattle.laws.proofs.Ints.{sub-pos, sub-neg, sub-cases, abs-mul, nonneg-add}
 use Rattle.laws.proofs.Lists.{length-tab, getD-tab, sets-in}
 use Rattle.history.specs.Ring.{Rule, rows-apart}
 use Rattle.model.specs.Rows.{padRow, own, src, firstRow}
-use Rattle.model.specs.Fine.{not-both}
+use Rattle.laws.proofs.Passes.{not-both}
 use Rattle.model.specs.Views.{viewAround, getD-tabs, place-high, back, place-split}
 
 -- the bytes of a luma row: four before the samples, the samples, four behind them; columns that are not filled, and all else, are 0

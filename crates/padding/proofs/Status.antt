@@ -1,6 +1,6 @@
 -- What a status of 0 says of the numbers of a call, and what is left where a call is refused. Assumes nothing.
 use mathlib.Core.Path.{_≡_, refl, sym, ap}
-use mathlib.Core.Bool.{Bool, true, false, cond, not, _&&_, _||_, and-true, and-false}
+use mathlib.Core.Bool.{Bool, true, false, not, _&&_, _||_, and-true, and-false}
 use mathlib.Core.List.{List}
 use Prim.Native.Nat.{ℕ, zero, suc, _+_, _-_, _%_}
 use native.Mathlib.Decide.{decLe}
@@ -11,7 +11,7 @@ use borrow.Author.Tests.{le-leb, lt-leb, leb-true, ltb-false, eqb-true}
 use Rattle.definition.specs.Rows.{outsideUnless, unlessRefused}
 use Rattle.definition.specs.Padding.{hasLeft, hasRight, rowAt, after, padded}
 use Rattle.definition.specs.Refusals.{beside, badSampling}
-use Rattle.laws.proofs.Passes.{both}
+use Rattle.laws.proofs.Passes.{both, inside, first-clear, not-both}
 use Rattle.laws.proofs.Lists.{tab-cong}
 use Rattle.laws.proofs.Ints.{never}
 use Rattle.padding.specs.Padded.{targetInside, backupStatus, lpfStatus, lumaStatus, paddedRow, lowerAt}
@@ -20,10 +20,6 @@ use Rattle.padding.specs.Steps.{Inside, InsideLuma}
 pub refused : (s : ℕ) (old written : List ℕ) → (s ≡ 0 → ⊥) → old ≡ unlessRefused s old written
 refused zero old written n = absurd (n refl)
 refused (suc s) old written n = refl
-
-inside : (b : Bool) → outsideUnless b ≡ 0 → b ≡ true
-inside true e = refl
-inside false e = absurd (omega arith)
 
 implied : (b c : Bool) → (not b || c) ≡ true → b ≡ true → c ≡ true
 implied true c e h = e
@@ -83,14 +79,6 @@ own-padded src srcO edges w e =
     (λ j h. padded-same (hasLeft edges) (hasRight edges) w (w - 1) (after src srcO (rowAt src (pos srcO))) (rowAt src (pos srcO)) (pos j -ℤ pos e) (own-row src srcO))
 
 -- a luma row
-unrefused : (b : Bool) (n : ℕ) → cond b 4 n ≡ 0 → (b ≡ false) × (n ≡ 0)
-unrefused true n e = absurd (omega arith)
-unrefused false n e = (refl, e)
-
-neither : (a b : Bool) → (a || b) ≡ false → (a ≡ false) × (b ≡ false)
-neither true b e = absurd (never (sym e))
-neither false b e = (refl, e)
-
 module _ (dst o src srcO stride w edges ssHor ssVer kind : ℕ) where
   abbrev lowTest : Bool
   lowTest = leb (srcO + lowerAt ssVer kind stride + (w + beside (hasRight edges) 4)) src
@@ -98,9 +86,9 @@ module _ (dst o src srcO stride w edges ssHor ssVer kind : ℕ) where
   pub given-inside-luma : lumaStatus dst o src srcO stride w edges ssHor ssVer kind ≡ 0 → InsideLuma dst o src srcO stride w edges ssHor ssVer kind
   unfolding lumaStatus
   given-inside-luma z =
-      let s = unrefused (badSampling ssHor ssVer kind) _ z in
-      let f = neither (ltb 1 ssHor || ltb ssHor ssVer) (ltb 2 kind) (s .0) in
-      let g = neither (ltb 1 ssHor) (ltb ssHor ssVer) (f .0) in
+      let s = first-clear (badSampling ssHor ssVer kind) 4 _ (omega arith) z in
+      let f = not-both (ltb 1 ssHor || ltb ssHor ssVer) (ltb 2 kind) (s .0) in
+      let g = not-both (ltb 1 ssHor) (ltb ssHor ssVer) (f .0) in
       let p = both (targetInside dst o w 4 && eqb (w % (ssHor + 1)) 0 && lowTest) (leb (beside (hasLeft edges) 4) srcO) (inside _ (s .1)) in
       let q = both (targetInside dst o w 4 && eqb (w % (ssHor + 1)) 0) lowTest (p .0) in
       let m = both (targetInside dst o w 4) (eqb (w % (ssHor + 1)) 0) (q .0) in

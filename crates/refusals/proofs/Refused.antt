@@ -8,11 +8,12 @@ use native.Mathlib.Omega.{arith}
 use lib.Dec.{ltb, leb, eqb}
 use lib.ListN.{length}
 use borrow.Author.Tests.{lt-ltb, le-ltb, lt-leb, le-leb, ne-eqb, ltb-false}
+use Rattle.laws.proofs.Passes.{not-both}
 use Rattle.definition.specs.Padding.{hasTop, topIntegrated}
 use Rattle.definition.specs.Units.{Operation, luma, user, pretrained, chroma, border, setSize, Given, Lent}
 use Rattle.definition.specs.Refusals.{Sizes, lowest, outside, badSampling, topRows, rightOf, badLumaStride, badPair, badNoskip, badFilters, badLuma, badMapOf}
 use Rattle.laws.proofs.Checks.{clear}
-use Rattle.model.specs.Fine.{not-both, is-sized}
+use Rattle.model.specs.Fine.{is-sized}
 use Rattle.refusals.specs.Given.{operationOf, badMapLists}
 use Rattle.refusals.proofs.Chosen.{when-chroma, unless-chroma, when-classed, unless-classed}
 use Rattle.refusals.specs.Table.{chromatic, classed, firstChecks, Within}

@@ -1,6 +1,6 @@
 -- The status of an advance, whatever the kind of unit: what decides it, and what a status of 0 says of the state and of what is lent. Assumes nothing.
 use mathlib.Core.Path.{_≡_, refl}
-use mathlib.Core.Bool.{Bool, true, false, cond, not, _||_}
+use mathlib.Core.Bool.{Bool, true, false, not, _||_}
 use mathlib.Core.List.{List}
 use Prim.Native.Nat.{ℕ, zero, suc, _≤_, _<_}
 use native.Mathlib.Decide.{decLt}
@@ -10,8 +10,8 @@ use lib.ListN.{length, getD, List·getD-eq-default}
 use borrow.Author.Tests.{eqb-true, ltb-false, leb-true, not-false}
 use Rattle.definition.specs.Units.{Operation, setSize, Given, Lent}
 use Rattle.definition.specs.Refusals.{Sizes, sizesOf, unitStatus, badShape, badKept, badFilters, indexLimit, nextLimit, indicesUpTo}
-use Rattle.laws.proofs.Passes.{pass-at}
-use Rattle.model.specs.Fine.{Fine, fine, not-both}
+use Rattle.laws.proofs.Passes.{pass-at, not-both, first-clear}
+use Rattle.model.specs.Fine.{Fine, fine}
 use Rattle.refusals.specs.Given.{operationOf, givenOf}
 use Rattle.refusals.specs.Table.{classed}
 use Rattle.refusals.proofs.Chosen.{unless-classed}
@@ -49,10 +49,6 @@ module _ (op : ℕ) (low : 1 ≤ op) (high : op ≤ 4) (s : State) (z : Sizes) w
   well-shaped e f = rw (number-of op low high, e, f)
 
 -- WHAT A STATUS OF 0 SAYS
-not13 : (b : Bool) (n : ℕ) → cond b 13 n ≡ 0 → (b ≡ false) × (n ≡ 0)
-not13 true n e = absurd (omega arith)
-not13 false n e = (refl, e)
-
 pub admitted : (op : Operation) (count : ℕ) (s : State) (l : Lent) (p : List ℕ) → statusOf (callOf op count l) s p ≡ 0 → Admitted op count s l p
 unfolding statusBy badState
 admitted op count s l p e =
@@ -61,7 +57,7 @@ admitted op count s l p e =
     let i : Bool = not (indicesUpTo (indexLimit op) (s .indices)) in
     let n : Bool = ltb (nextLimit op) (s .next) in
     let k : Bool = badKept op (s .classes) (length (l .filters)) in
-    let t = not13 (o || d || i || n || k) (unitStatus op (givenOf (s .numbers)) (sizesOf op l p)) e in
+    let t = first-clear (o || d || i || n || k) 13 (unitStatus op (givenOf (s .numbers)) (sizesOf op l p)) (omega arith) e in
     let u = not-both (o || d || i || n) k (t .0) in
     let a = not-both (o || d || i) n (u .0) in
     let b = not-both (o || d) i (a .0) in

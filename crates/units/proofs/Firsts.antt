@@ -1,5 +1,5 @@
 -- The first block of which a test holds (`firstOf`): where it lies, and what the blocks before it are. Then the stretches of a mask. Assumes nothing.
-use mathlib.Core.Path.{_≡_, refl, sym, _∙_}
+use mathlib.Core.Path.{_≡_, refl, _∙_}
 use mathlib.Core.Bool.{Bool, true, false, not, cond, _||_}
 use mathlib.Core.List.{List}
 use Prim.Native.Nat.{ℕ, zero, suc, _+_, _-_, _≤_, _<_}
@@ -9,11 +9,11 @@ use native.Mathlib.Omega.{arith}
 use lib.Dec.{eqb}
 use lib.ListN.{getD}
 use borrow.Author.Tests.{eqb-true, not-true, not-false, lt-ltb}
+use Rattle.laws.proofs.Passes.{not-both}
 use Rattle.definition.specs.Blocks.{masked, firstOf, stretchEnd, stretchStart}
 use Rattle.blocks.specs.Answers.{blockStatus, endOf}
 use Rattle.definition.specs.Rows.{orZero}
 use Rattle.blocks.proofs.Told.{block-in}
-use Rattle.laws.proofs.Ints.{never}
 
 module _ (test : ℕ → Bool) where
   pub first-low : (n a : ℕ) → a ≤ firstOf test a n
@@ -100,10 +100,6 @@ pub record ClassStretch (mask : ℕ) (classes : List ℕ) (bx bw start end : ℕ
   pub clear : Open mask start end
   pub alike : (k : ℕ) → start ≤ k → k < end → getD classes k 0 ≡ getD classes start 0
 
-neither : (a b : Bool) → (a || b) ≡ false → (a ≡ false) × (b ≡ false)
-neither true b e = absurd (never (sym e))
-neither false b e = (refl, e)
-
 module _ (mask : ℕ) (classes : List ℕ) (bx bw start : ℕ) (h : bw ≤ 16) (l : bx ≤ bw) (s : start ≡ orZero (blockStatus bx bw) (stretchStart mask bx bw)) where
   start-is : start ≡ firstOf (λ k. not (masked mask k)) bx (bw - bx)
   start-is = let z : blockStatus bx bw ≡ 0 = block-in bx bw h l in s ∙ rw z
@@ -133,12 +129,12 @@ module _ (mask : ℕ) (classes : List ℕ) (bx bw start : ℕ) (h : bw ≤ 16) (
         clear = λ k a b.
             elim (ℕ-discrete k start) [
               | yes e ↦ rw e here
-              | no ne ↦ neither (masked mask k) (not (eqb (getD classes k 0) (getD classes start 0))) (fails k (omega arith) b) .0
+              | no ne ↦ not-both (masked mask k) (not (eqb (getD classes k 0) (getD classes start 0))) (fails k (omega arith) b) .0
             ];
         alike = λ k a b.
             elim (ℕ-discrete k start) [
               | yes e ↦ rw e
               | no ne ↦ eqb-true (getD classes k 0) (getD classes start 0)
-                  (not-false (eqb (getD classes k 0) (getD classes start 0)) (neither (masked mask k) (not (eqb (getD classes k 0) (getD classes start 0))) (fails k (omega arith) b) .1))
+                  (not-false (eqb (getD classes k 0) (getD classes start 0)) (not-both (masked mask k) (not (eqb (getD classes k 0) (getD classes start 0))) (fails k (omega arith) b) .1))
             ];
       }

@@ -16,7 +16,7 @@ use Rattle.definition.specs.Refusals.{indicesUpTo}
 use Rattle.laws.proofs.Passes.{pass-all}
 use Rattle.laws.proofs.Lists.{tab-cong}
 use Rattle.filter.specs.Runs.{runStatus, uvStatus, coefficients, lumaRun, pretrainedRun, chromaRun}
-use Rattle.units.specs.Open.{lumaOpen, pretrainedOpen, chromaOpen}
+use Rattle.units.specs.Unmasked.{lumaOpen, pretrainedOpen, chromaOpen}
 use Rattle.units.proofs.Stretches.{run-back}
 
 indices-in : (limit : ℕ) (indices : List ℕ) → ((j : ℕ) → j < 10 → getD indices j 0 ≤ limit) → indicesUpTo limit indices ≡ true

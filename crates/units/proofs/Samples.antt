@@ -10,7 +10,7 @@ use Rattle.definition.specs.Sample.{limit8, rounded, centre, pairOf, nsTap, pcT
 use Rattle.definition.specs.Units.{user, pretrained, setOf}
 use Rattle.filter.specs.Runs.{coefficients}
 use Rattle.model.specs.Views.{sumZ-cong}
-use Rattle.units.specs.Open.{lumaOpen, pretrainedOpen, userOpen, classedOpen}
+use Rattle.units.specs.Unmasked.{lumaOpen, pretrainedOpen, userOpen, classedOpen}
 use Rattle.units.proofs.Firsts.{ClassStretch}
 
 module _ (rows indices : List ℕ) (c d : ℕ → ℤ) (x : ℕ) where

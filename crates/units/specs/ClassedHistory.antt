@@ -11,7 +11,7 @@ use lib.Dec.{eqb, ltb}
 use lib.IntN.{ℤ, pos, negsuc, natAbs, _+ℤ_, _-ℤ_, +ℤ-assoc}
 use lib.ListN.{length, getD, set, replicate, length-replicate, getD-replicate, length-set, length-append, List·getD-eq-default}
 use lib.Seq.{sets, length-sets, ext-getD, getD-set-same, getD-set-other}
-use borrow.Author.Tests.{lt-ltb, eqb-true, eqb-false, ltb-true}
+use borrow.Author.Tests.{lt-ltb, eqb-true, eqb-false, ltb-true, not-false}
 use Rattle.definition.specs.Rows.{tab, rowBytes, rowOrigin, lumaFlat}
 use Rattle.definition.specs.Blocks.{side, masked, maskAt}
 use Rattle.definition.specs.Units.{Operation, user, pretrained, border, Given, Lent, around, classOf, setOf, setSize, finalSample}
@@ -25,8 +25,8 @@ use Rattle.model.specs.Rows.{padRow, own, src, pad-same, pad-size, ring-rule, f
 use Rattle.model.specs.Views.{Agree, luma-agree, pretrained-agree, viewAround, flat-view, row-view, pad-view, place-high}
 use Rattle.model.specs.Classes.{Eight, class-same}
 use Rattle.definition.specs.Refusals.{Sizes, sizesOf, every, badMapOf, badFilters, badKept, firstPass, indexLimit, nextLimit}
-use Rattle.laws.proofs.Passes.{both, pass-all}
-use Rattle.model.specs.Fine.{Fine, fine, row-room, not-both, not-not}
+use Rattle.laws.proofs.Passes.{both, pass-all, not-both}
+use Rattle.model.specs.Fine.{Fine, fine, row-room}
 use Rattle.laws.proofs.Ints.{never}
 use Rattle.model.specs.Opening.{openRing, opens, filled, filled-size, openIndex}
 use Rattle.units.specs.Histories.{frameOf, Histories}
@@ -333,7 +333,7 @@ module _ (op : Operation) (four : border op ≡ 4) (ten₀ : (n : Numbers) (l : 
         let m : badMapOf op l ≡ false = maps G (sizesOf op l p₀) (good .filters) in
         let u = not-both (not (eqb (length (l .map)) 4096) || not (every (λ k. ltb k (length (l .subclass))) (l .map))) (not (every (λ c. ltb c sets′) (l .subclass))) m in
         let v = not-both (not (eqb (length (l .map)) 4096)) (not (every (λ k. ltb k (length (l .subclass))) (l .map))) (u .0) in
-        (eqb-true (length (l .map)) 4096 (not-not (eqb (length (l .map)) 4096) (v .0)), not-not (every (λ k. ltb k (length (l .subclass))) (l .map)) (v .1), not-not (every (λ c. ltb c sets′) (l .subclass)) (u .1))
+        (eqb-true (length (l .map)) 4096 (not-false (eqb (length (l .map)) 4096) (v .0)), not-false (every (λ k. ltb k (length (l .subclass))) (l .map)) (v .1), not-false (every (λ c. ltb c sets′) (l .subclass)) (u .1))
 
     pub some-set : 0 < sets′
     some-set = some-below sets′ (l .subclass) (some-below (length (l .subclass)) (l .map) (rw (map-good .0) (omega arith)) (map-good .1)) (map-good .2)

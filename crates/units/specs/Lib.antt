@@ -1,6 +1,6 @@
 pub mod Windows
 pub mod Cells
-pub mod Open
+pub mod Unmasked
 pub mod Operations
 pub mod Openings
 pub mod Advances

@@ -1,4 +1,4 @@
--- Opening a unit of each kind, and what the whole-unit operations promise.
+-- Opening a unit of each kind: the state that it hands out.
 use mathlib.Core.Path.{_≡_}
 use mathlib.Core.List.{List, [], _∷_, _++_}
 use Prim.Native.Nat.{ℕ, zero, suc, _+_}

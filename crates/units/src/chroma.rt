@@ -168,7 +168,7 @@ pub fn advanced<'a>(
 {
     let g = s.numbers;
     let start = s.done;
-    let n = crate::luma::least(count, g.h - start);
+    let n = bounds::least(count, g.h - start);
     let f = filter_of(filter);
     let pieces = crate::luma::pieces_of_rows(skip, g.w / 4, start, n);
     let classes = s.classes;

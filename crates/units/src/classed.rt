@@ -313,7 +313,7 @@ pub fn advanced_n(
 {
     let g = s.numbers;
     let start = s.done;
-    let n = crate::luma::least(count, g.h - start);
+    let n = bounds::least(count, g.h - start);
     let pieces = crate::luma::pieces_of_rows(skip, g.w / 4, start, n);
     let mut rows = s.rows;
     let mut indices = s.indices;
@@ -426,7 +426,7 @@ pub fn advanced_p(
 {
     let g = s.numbers;
     let start = s.done;
-    let n = crate::luma::least(count, g.h - start);
+    let n = bounds::least(count, g.h - start);
     let pieces = crate::luma::pieces_of_rows(skip, g.w / 4, start, n);
     let mut rows = s.rows;
     let mut indices = s.indices;

@@ -1,9 +1,11 @@
 // Units that can be broken off between rows: open hands out a state, advance takes it with a row count and hands it back.
 ghost use mathlib.Core.Path.{_≡_};
-ghost use Rattle.units.specs.Operations.{answer, Answered, isFinished, statusBy};
+ghost use Rattle.units.specs.Operations.{answer, Answered, isFinished, stateAt, statusBy};
 ghost use Rattle.definition.specs.Units.{luma, user, pretrained, chroma};
-ghost use Prim.Native.Nat.{_≤_};
+ghost use Prim.Native.Nat.{ℕ, _≤_};
+ghost use mathlib.Core.List.{List};
 ghost use Rattle.refusals.specs.Given.{operationOf, sizesGiven};
+ghost use Rattle.units.specs.Windows.{ring};
 ghost use Rattle.units.specs.Openings.{Begun};
 ghost use Rattle.units.specs.Advances.{callOf};
 ghost use Rattle.units.specs.Chroma.{chromaLent, numbersC};
@@ -72,7 +74,18 @@ impl State {
         ensures { λ r. ⌜ Answered r (now (p .exit)) (answer (callOf luma count (lumaLent (now (left .entry)) (now (lpf .entry)) (now («lpf_bottom» .entry)) (now (filter .entry)) (now (skip .entry)))) self (now (p .entry))) ⌝ }
     {
         let z = luma::sizes(p, left, lpf, lpf_bottom, filter, skip);
-        let status = advance_status(1, self, z);
+        let classes = self.classes;
+        let indices = self.indices;
+        let status = advance_status(
+            1,
+            self.op,
+            self.numbers,
+            self.done,
+            self.next,
+            &classes,
+            &indices,
+            z,
+        );
         if status != 0 {
             return Advanced {
                 status,
@@ -112,7 +125,18 @@ impl State {
             noskip,
             skip,
         );
-        let status = advance_status(2, self, z);
+        let classes = self.classes;
+        let indices = self.indices;
+        let status = advance_status(
+            2,
+            self.op,
+            self.numbers,
+            self.done,
+            self.next,
+            &classes,
+            &indices,
+            z,
+        );
         if status != 0 {
             return Advanced {
                 status,
@@ -165,7 +189,18 @@ impl State {
             noskip,
             skip,
         );
-        let status = advance_status(3, self, z);
+        let classes = self.classes;
+        let indices = self.indices;
+        let status = advance_status(
+            3,
+            self.op,
+            self.numbers,
+            self.done,
+            self.next,
+            &classes,
+            &indices,
+            z,
+        );
         if status != 0 {
             return Advanced {
                 status,
@@ -216,7 +251,18 @@ impl State {
             luma_bottom,
             skip,
         );
-        let status = advance_status(4, self, z);
+        let classes = self.classes;
+        let indices = self.indices;
+        let status = advance_status(
+            4,
+            self.op,
+            self.numbers,
+            self.done,
+            self.next,
+            &classes,
+            &indices,
+            z,
+        );
         if status != 0 {
             return Advanced {
                 status,
@@ -240,22 +286,27 @@ impl State {
     }
 }
 
-// The table for an advance: the state's shape and the kept classes come first.
-fn advance_status(op: usize, s: State, z: Sizes) -> u8
+// The table for an advance: the state's shape and the kept classes come first. The state is handed over without its rows, which nothing here looks at.
+fn advance_status(
+    op: usize,
+    of: usize,
+    g: Numbers,
+    done: usize,
+    next: usize,
+    classes: &[u8; 16],
+    indices: &[usize; 10],
+    z: Sizes,
+) -> u8
     requires { ⌜ (1 ≤ op) × (op ≤ 4) ⌝ }
-    ensures { λ r. ⌜ r ≡ statusBy (operationOf op) s (sizesGiven z) ⌝ }
+    ensures { λ r. ⌜ ((rows : List ℕ) → r ≡ statusBy (operationOf op) (stateAt of g done (now (classes .entry)) (ring rows (now (indices .entry)) next)) (sizesGiven z)) ⌝ }
 {
-    let indices = s.indices;
-    let classes = s.classes;
-    let shape = refusals::bad_shape(op, s.op != op, s.done, s.numbers.h, &indices, s.next);
-    let kept = refusals::bad_kept(op, &classes, z.filters);
-    if shape {
+    if refusals::bad_shape(op, of != op, done, g.h, indices, next) {
         return 13;
     }
-    if kept {
+    if refusals::bad_kept(op, classes, z.filters) {
         return 13;
     }
-    refusals::unit_status(op, s.numbers, z)
+    refusals::unit_status(op, g, z)
 }
 
 // A luma unit, opened over a plane that is not written.

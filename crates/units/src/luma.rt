@@ -1,6 +1,6 @@
 // Luma units: what an advance is made of.
 ghost use mathlib.Core.Path.{_≡_};
-ghost use Prim.Native.Nat.{ℕ, _+_, _*_, _-_, _/_, _≤_, _<_, min};
+ghost use Prim.Native.Nat.{ℕ, _+_, _*_, _-_, _/_, _≤_, _<_};
 ghost use lib.ListN.{length, getD};
 ghost use Rattle.definition.specs.Blocks.{piecesOf, maskAt};
 ghost use Rattle.definition.specs.Refusals.{sizesOf};
@@ -14,15 +14,6 @@ use crate::Advanced;
 use crate::State;
 use refusals::Numbers;
 use refusals::Sizes;
-
-pub fn least(a: usize, b: usize) -> usize
-    ensures { λ r. ⌜ r ≡ min a b ⌝ }
-{
-    if a < b {
-        return a;
-    }
-    b
-}
 
 // The lengths of all that is lent. There is no map.
 pub fn sizes(p: &[u8], left: &[u8], top: &[u8], bottom: &[u8], filter: &[i8], skip: &[u16]) -> Sizes
@@ -125,7 +116,7 @@ pub fn advanced(
 {
     let g = s.numbers;
     let start = s.done;
-    let n = least(count, g.h - start);
+    let n = bounds::least(count, g.h - start);
     let f = filter_of(filter);
     let pieces = pieces_of_rows(skip, g.w / 4, start, n);
     let classes = s.classes;

@@ -7,7 +7,7 @@ ghost use lib.Seq.{sets};
 ghost use Rattle.definition.specs.Rows.{tab};
 ghost use Rattle.definition.specs.Units.{user, pretrained, setOf};
 ghost use Rattle.units.specs.Cells.{lumaCell, userCell, pretrainedCell, chromaCell};
-ghost use Rattle.units.specs.Open.{lumaOpen, pretrainedOpen, chromaOpen};
+ghost use Rattle.units.specs.Unmasked.{lumaOpen, pretrainedOpen, chromaOpen};
 ghost use Rattle.filter.specs.Runs.{coefficients};
 
 // Samples x0 .. x1 - 1 of a luma row, one filter run.

@@ -1,6 +1,6 @@
 // The ring of padded rows: a row is padded into a slot, and ten indices say which slot holds which row of the window.
 ghost use mathlib.Core.Path.{_≡_};
-ghost use Prim.Native.Nat.{_+_, _*_, _-_, _/_, _%_, _≤_, _<_, min, max};
+ghost use Prim.Native.Nat.{_+_, _*_, _-_, _/_, _%_, _≤_, _<_, max};
 ghost use lib.ListN.{length, replicate};
 ghost use lib.Seq.{sets};
 ghost use lib.Dec.{eqb};
@@ -138,7 +138,7 @@ fn lower_row(
         return saved_row(e, g.w, g.edges, plane, g.off + y * g.stride);
     }
     if is_set(g.edges, 8) {
-        let n = smaller(y - g.h, 1);
+        let n = bounds::least(y - g.h, 1);
         return saved_row(e, g.w, g.edges, bottom, g.bottom_off + n * g.stride);
     }
     let last = g.h - 1;
@@ -240,15 +240,6 @@ pub fn larger(a: usize, b: usize) -> usize
     ensures { λ r. ⌜ r ≡ max a b ⌝ }
 {
     if a < b {
-        return b;
-    }
-    a
-}
-
-fn smaller(a: usize, b: usize) -> usize
-    ensures { λ r. ⌜ r ≡ min a b ⌝ }
-{
-    if b < a {
         return b;
     }
     a

@@ -2,7 +2,7 @@
 use Prim.Native.Nat.{_*_}
 use native.Mathlib.Omega.{arith}
 use borrow.Author.Needs.{needs}
-use Rattle.class_rows.proofs.Columns.{distance}
+use Rattle.laws.proofs.Ints.{distance}
 use Rattle.class_rows.proofs.bend_of.Statement.{statement}
 use Rattle.class_rows.proofs.bend_of.Tie as tie
 

@@ -4,7 +4,7 @@ use mathlib.Core.Path.{_≡_, refl}
 use Prim.Native.Nat.{_+_, _-_, _*_, _≤_, zero-le}
 use lib.ListN.{length, getD}
 use lib.Seq.{length-sets}
-use Rattle.filter.specs.Shapes.{Gathered}
+use Rattle.filter.specs.Gathered.{Gathered}
 use Rattle.filter.proofs.Gathering.{none-gathered, one-gathered}
 use Rattle.filter.proofs.gather.Statement.{statement}
 use Rattle.filter.proofs.gather.Tie as tie

@@ -5,7 +5,7 @@ use Prim.Native.Nat.{_-_, _≤_}
 use lib.Seq.{sets}
 use Rattle.definition.specs.Rows.{tab}
 use Rattle.laws.proofs.Lists.{sets-more}
-use Rattle.filter.specs.Shapes.{every}
+use Rattle.filter.specs.Gathered.{every}
 use Rattle.filter.proofs.gather_row.Statement.{statement}
 use Rattle.filter.proofs.gather_row.Tie as tie
 

@@ -7,7 +7,7 @@ use lib.ListN.{length}
 use Rattle.definition.specs.Rows.{chromaFlat, chromaLumaFlat}
 use Rattle.definition.specs.Sample.{rounded, chromaSample}
 use Rattle.filter.specs.Runs.{uvStatus, coefficients}
-use Rattle.filter.specs.Shapes.{Gathered, compactAt, compactSum}
+use Rattle.filter.specs.Gathered.{Gathered, compactAt, compactSum}
 use Rattle.filter.proofs.Gathering.{gathered-sum}
 use Rattle.filter.proofs.Statuses.{UvInside, uv-inside, eight-inside}
 use Rattle.filter.proofs.Writes.{Writing, none-yet, same, some-more, written, refused}

@@ -8,7 +8,7 @@ use mir.Facts.{toZ-ofZ}
 use Rattle.definition.specs.Rows.{chromaFlat}
 use Rattle.definition.specs.Sample.{rounded}
 use Rattle.filter.specs.Runs.{coefficients}
-use Rattle.filter.specs.Shapes.{compactAt, compactSum}
+use Rattle.filter.specs.Gathered.{compactAt, compactSum}
 use Rattle.filter.proofs.Writes.{Filled, one-filled}
 use Rattle.filter.proofs.uv_eight.Statement.{statement}
 use Rattle.filter.proofs.uv_eight.Tie as tie

@@ -11,7 +11,7 @@ use mir.Val.{toZ, ofZ}
 use mir.Facts.{toZ-ofZ}
 use Rattle.definition.specs.Sample.{nsConfigUvFromY}
 use Rattle.laws.proofs.Tables.{near-at}
-use Rattle.filter.specs.Shapes.{compactAt}
+use Rattle.filter.specs.Gathered.{compactAt}
 use Rattle.filter.proofs.Taps.{dy-is, dx-is, stepped}
 use Rattle.filter.proofs.uv_luma_step.Statement.{statement}
 use Rattle.filter.proofs.uv_luma_step.Tie as tie

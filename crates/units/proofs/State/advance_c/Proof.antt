@@ -20,17 +20,17 @@ same-length c = search needs
 
 returns : tie.Need-returns
 returns c =
-    let a = c .before .before .before .before .before .before .before .before .before .before .before .before .args in
+    let a = c .before .before .before .before .before .before .before .before .before .before .before .before .before .before .before .before .args in
     let t = c .before .advance-status in
     declined chroma (chromaLent (a .left .now) (a .lpf .now) (a .lpf-bottom .now) (a .filter .now) (a .luma .now) (a .luma-top .now) (a .luma-bottom .now) (a .skip .now)) (a .self) (a .p .now) (a .count) (t .result)
-    (t .ensures ∙ ap (statusBy chroma (a .self)) (c .before .before .sizes .ensures)) (c .if1 .taken)
+    (t .ensures (a .self .rows) ∙ ap (statusBy chroma (a .self)) (c .before .before .before .before .before .before .sizes .ensures)) (c .if1 .taken)
 
 advanced-requires : tie.Need-advanced-requires
 advanced-requires c κs =
-    let s = c .before .before .before .before .before .before .before .before .before .before .before .before .before in
+    let s = c .before .before .before .before .before .before .before .before .before .before .before .before .before .before .before .before .before in
     let a = s .args in
     admitted chroma (a .count) (a .self) (chromaLent (a .left .now) (a .lpf .now) (a .lpf-bottom .now) (a .filter .now) (a .luma .now) (a .luma-top .now) (a .luma-bottom .now) (a .skip .now)) (a .p .now)
-    (sym (c .before .before .advance-status .ensures ∙ ap (statusBy chroma (a .self)) (c .before .before .before .sizes .ensures)) ∙ c .before .if1 .left)
+    (sym (c .before .before .advance-status .ensures (a .self .rows) ∙ ap (statusBy chroma (a .self)) (c .before .before .before .before .before .before .before .sizes .ensures)) ∙ c .before .if1 .left)
 
 same-length-2 : tie.Need-same-length-2
 same-length-2 c = search needs

@@ -23,26 +23,26 @@ same-length c = search needs
 
 returns : tie.Need-returns
 returns c =
-    let a = c .before .before .before .before .before .before .before .before .before .before .before .before .args in
+    let a = c .before .before .before .before .before .before .before .before .before .before .before .before .before .before .before .before .args in
     let t = c .before .advance-status in
     declined pretrained (classedLent (a .left .now) (a .lpf .now) (a .lpf-bottom .now) (a .filters .now) (a .map .now) (a .subclass .now) (a .noskip .now) (a .skip .now) (a .base-q)) (a .self) (a .p .now) (a .count) (t .result)
-    (t .ensures ∙ ap (statusBy pretrained (a .self)) (c .before .before .sizes .ensures (a .filters .now) (a .base-q) refl)) (c .if1 .taken)
+    (t .ensures (a .self .rows) ∙ ap (statusBy pretrained (a .self)) (c .before .before .before .before .before .before .sizes .ensures (a .filters .now) (a .base-q) refl)) (c .if1 .taken)
 
 advanced-p-requires : tie.Need-advanced-p-requires
 advanced-p-requires c κs =
-    let s = c .before .before .before .before .before .before .before .before .before .before .before .before .before in
+    let s = c .before .before .before .before .before .before .before .before .before .before .before .before .before .before .before .before .before in
     let a = s .args in
     let q-is : toZ w32 (ofZ w32 (a .base-q)) ≡ a .base-q = toZ-ofZ (s .fits .base-q) in
     rw q-is
     (admitted pretrained (a .count) (a .self) (classedLent (a .left .now) (a .lpf .now) (a .lpf-bottom .now) (a .filters .now) (a .map .now) (a .subclass .now) (a .noskip .now) (a .skip .now) (a .base-q)) (a .p .now)
-    (sym (c .before .before .advance-status .ensures ∙ ap (statusBy pretrained (a .self)) (c .before .before .before .sizes .ensures (a .filters .now) (a .base-q) refl)) ∙ c .before .if1 .left))
+    (sym (c .before .before .advance-status .ensures (a .self .rows) ∙ ap (statusBy pretrained (a .self)) (c .before .before .before .before .before .before .before .sizes .ensures (a .filters .now) (a .base-q) refl)) ∙ c .before .if1 .left))
 
 same-length-2 : tie.Need-same-length-2
 same-length-2 c = search needs
 
 returns-2 : tie.Need-returns-2
 returns-2 c =
-    let s = c .before .before .before .before .before .before .before .before .before .before .before .before .before .before .before .before in
+    let s = c .before .before .before .before .before .before .before .before .before .before .before .before .before .before .before .before .before .before .before .before in
     let a = s .args in
     let q-is : toZ w32 (ofZ w32 (a .base-q)) ≡ a .base-q = toZ-ofZ (s .fits .base-q) in
     rw q-is at (c .before .before .advanced-p .ensures)

@@ -13,7 +13,7 @@ use Rattle.units.specs.Advances.{Gone}
 use Rattle.units.specs.Chroma.{chromaLent}
 use Rattle.units.proofs.Admissions.{one-set, low-all}
 use Rattle.units.proofs.Advances.{gone-first, gone-row, gone-all}
-use Rattle.units.proofs.BothLie.{both-lie}
+use Rattle.units.proofs.ChromaLie.{both-lie}
 use Rattle.units.proofs.chroma.advanced.Statement.{statement}
 use Rattle.units.proofs.chroma.advanced.Tie as tie
 

@@ -9,7 +9,7 @@ use lib.Seq.{ext-getD}
 use mir.Syntax.{w8}
 use mir.Val.{toZ, ofZ}
 use mir.Facts.{toZ-ofZ}
-use Rattle.units.proofs.Turns.{copied-more}
+use Rattle.units.proofs.LumaRow.{copied-more}
 use Rattle.units.proofs.chroma.filter_of.Statement.{statement}
 use Rattle.units.proofs.chroma.filter_of.Tie as tie
 

@@ -1,6 +1,6 @@
 -- `units::chroma::first_state` meets its contract: the chroma rows, the luma rows behind them, and the indices of both. Assumes nothing.
 use borrow.Author.Needs.{needs}
-use Rattle.units.proofs.Chromas.{blank-behind, opened}
+use Rattle.units.proofs.ChromaOpening.{blank-behind, opened}
 use Rattle.units.proofs.chroma.first_state.Statement.{statement}
 use Rattle.units.proofs.chroma.first_state.Tie as tie
 

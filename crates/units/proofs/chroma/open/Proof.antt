@@ -6,8 +6,8 @@ use Rattle.definition.specs.Refusals.{sizesOf, unitStatus}
 use Rattle.model.specs.Fine.{fine}
 use Rattle.refusals.specs.Given.{givenOf}
 use Rattle.units.specs.Chroma.{chromaLent}
-use Rattle.units.proofs.BothLie.{both-lie}
-use Rattle.units.proofs.Chromas.{begun-none, begun-first}
+use Rattle.units.proofs.ChromaLie.{both-lie}
+use Rattle.units.proofs.ChromaOpening.{begun-none, begun-first}
 use Rattle.units.proofs.chroma.open.Statement.{statement}
 use Rattle.units.proofs.chroma.open.Tie as tie
 

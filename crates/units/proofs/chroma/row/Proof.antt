@@ -2,8 +2,8 @@
 use native.Mathlib.Omega.{arith}
 use borrow.Author.Needs.{needs}
 use Rattle.units.proofs.Sources.{plane-inside}
-use Rattle.units.proofs.BothLie.{columns-high}
-use Rattle.units.proofs.Both.{now-low, now-count, stepped}
+use Rattle.units.proofs.ChromaLie.{columns-high}
+use Rattle.units.proofs.ChromaRow.{now-low, now-count, stepped}
 use Rattle.units.proofs.chroma.row.Statement.{statement}
 use Rattle.units.proofs.chroma.row.Tie as tie
 

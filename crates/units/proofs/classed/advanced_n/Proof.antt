@@ -13,7 +13,7 @@ use Rattle.units.specs.Advances.{Gone}
 use Rattle.units.specs.Classed.{classedLent}
 use Rattle.units.specs.ClassedRows.{Sound}
 use Rattle.units.proofs.Advances.{gone-first, gone-row, gone-all}
-use Rattle.units.proofs.ClassedTurns.{fit, sound-first}
+use Rattle.units.proofs.ClassedRow.{fit, sound-first}
 use Rattle.units.proofs.classed.advanced_n.Statement.{statement}
 use Rattle.units.proofs.classed.advanced_n.Tie as tie
 

@@ -9,7 +9,7 @@ use Rattle.definition.specs.Units.{user}
 use Rattle.units.specs.Cells.{userCell}
 use Rattle.units.proofs.Sources.{plane-inside}
 use Rattle.units.proofs.Classes.{took-low}
-use Rattle.units.proofs.ClassedTurns.{sound-after, stepped, by-user}
+use Rattle.units.proofs.ClassedRow.{sound-after, stepped, by-user}
 use borrow.Author.Needs.{needs}
 use Rattle.units.proofs.classed.row_n.Statement.{statement}
 use Rattle.units.proofs.classed.row_n.Tie as tie

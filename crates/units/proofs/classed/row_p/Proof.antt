@@ -9,7 +9,7 @@ use Rattle.definition.specs.Units.{pretrained}
 use Rattle.units.specs.Cells.{pretrainedCell}
 use Rattle.units.proofs.Sources.{plane-inside}
 use Rattle.units.proofs.Classes.{took-low}
-use Rattle.units.proofs.ClassedTurns.{sound-after, stepped, by-pretrained}
+use Rattle.units.proofs.ClassedRow.{sound-after, stepped, by-pretrained}
 use borrow.Author.Needs.{needs}
 use Rattle.units.proofs.classed.row_p.Statement.{statement}
 use Rattle.units.proofs.classed.row_p.Tie as tie

@@ -3,7 +3,7 @@ use native.Mathlib.Omega.{arith}
 use borrow.Author.Needs.{needs}
 use Rattle.units.specs.Windows.{ring}
 use Rattle.units.proofs.Sources.{plane-inside}
-use Rattle.units.proofs.Turns.{fetched-low, stepped}
+use Rattle.units.proofs.LumaRow.{fetched-low, stepped}
 use Rattle.units.proofs.luma.row.Statement.{statement}
 use Rattle.units.proofs.luma.row.Tie as tie
 

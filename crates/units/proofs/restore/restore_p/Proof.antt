@@ -3,7 +3,7 @@
 use Prim.Native.Nat.{_-_, _/_, _≤_}
 use native.Mathlib.Omega.{arith}
 use Rattle.filter.specs.Runs.{coefficients}
-use Rattle.units.specs.Open.{pretrainedOpen, classedOpen}
+use Rattle.units.specs.Unmasked.{pretrainedOpen, classedOpen}
 use Rattle.units.specs.Cells.{pretrainedCell}
 use Rattle.units.proofs.Firsts.{ClassStretch, class-stretch, all-kept}
 use Rattle.units.proofs.Stretches.{Done, none-done, kept-more, run-more, row-done}

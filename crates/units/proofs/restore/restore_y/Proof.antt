@@ -7,7 +7,7 @@ use native.Mathlib.Omega.{arith}
 use borrow.Author.Needs.{needs}
 use borrow.Author.Tests.{eq-eqb, ne-eqb}
 use Rattle.filter.specs.Runs.{coefficients}
-use Rattle.units.specs.Open.{lumaOpen}
+use Rattle.units.specs.Unmasked.{lumaOpen}
 use Rattle.units.specs.Cells.{lumaCell}
 use Rattle.units.proofs.Firsts.{Stretch, stretch, one-kept}
 use Rattle.units.proofs.Stretches.{Done, none-done, kept-more, run-more, row-done}

@@ -73,8 +73,8 @@ returns-2 c =
 is-set-requires-2 : tie.Need-is-set-requires-2
 is-set-requires-2 c κs = search needs
 
-smaller-requires : tie.Need-smaller-requires
-smaller-requires c κs = search needs
+least-requires : tie.Need-least-requires
+least-requires c κs = search needs
 
 mul-saved-row-2 : tie.Need-mul-saved-row-2
 mul-saved-row-2 c =
@@ -82,7 +82,7 @@ mul-saved-row-2 c =
     let u = m .before .before in
     let t = u .before .before in
     let s = t .before .before .before .before .before .before .before .before .before in
-    omega (arith, s .good, bottom-inside (s .pre .0) (m .smaller .result) (bottom-row (s .args .g .edges) (s .args .y - s .args .g .h) (m .smaller .ensures) (bit-is (t .before .is-set .ensures) (t .if2 .left)) (bit-is (u .before .is-set2 .ensures) (u .if3 .taken))))
+    omega (arith, s .good, bottom-inside (s .pre .0) (m .least .result) (bottom-row (s .args .g .edges) (s .args .y - s .args .g .h) (m .least .ensures) (bit-is (t .before .is-set .ensures) (t .if2 .left)) (bit-is (u .before .is-set2 .ensures) (u .if3 .taken))))
 
 add-saved-row-2 : tie.Need-add-saved-row-2
 add-saved-row-2 c =
@@ -90,7 +90,7 @@ add-saved-row-2 c =
     let u = m .before .before in
     let t = u .before .before in
     let s = t .before .before .before .before .before .before .before .before .before in
-    omega (arith, s .good, bottom-inside (s .pre .0) (m .smaller .result) (bottom-row (s .args .g .edges) (s .args .y - s .args .g .h) (m .smaller .ensures) (bit-is (t .before .is-set .ensures) (t .if2 .left)) (bit-is (u .before .is-set2 .ensures) (u .if3 .taken))))
+    omega (arith, s .good, bottom-inside (s .pre .0) (m .least .result) (bottom-row (s .args .g .edges) (s .args .y - s .args .g .h) (m .least .ensures) (bit-is (t .before .is-set .ensures) (t .if2 .left)) (bit-is (u .before .is-set2 .ensures) (u .if3 .taken))))
 
 saved-row-requires-2 : tie.Need-saved-row-requires-2
 saved-row-requires-2 c κs =
@@ -99,8 +99,8 @@ saved-row-requires-2 c κs =
     let t = u .before .before in
     let b = t .before .before .before .before in
     let s = b .before .before .before .before .before in
-    bottom-fits (s .pre .0) (m .smaller .result) (b .border-of .ensures)
-    (bottom-row (s .args .g .edges) (s .args .y - s .args .g .h) (m .smaller .ensures) (bit-is (t .before .is-set .ensures) (t .if2 .left)) (bit-is (u .before .is-set2 .ensures) (u .if3 .taken)))
+    bottom-fits (s .pre .0) (m .least .result) (b .border-of .ensures)
+    (bottom-row (s .args .g .edges) (s .args .y - s .args .g .h) (m .least .ensures) (bit-is (t .before .is-set .ensures) (t .if2 .left)) (bit-is (u .before .is-set2 .ensures) (u .if3 .taken)))
 
 returns-3 : tie.Need-returns-3
 returns-3 c =
@@ -110,7 +110,7 @@ returns-3 c =
     let b = t .before .before .before .before in
     let s = b .before .before .before .before .before in
     c .saved-row2 .ensures ∙
-    bottom-is _ _ _ _ (s .args .y) (b .border-of .ensures) (m .smaller .ensures) (t .before .before .if1 .left) (bit-is (t .before .is-set .ensures) (t .if2 .left)) (bit-is (u .before .is-set2 .ensures) (u .if3 .taken))
+    bottom-is _ _ _ _ (s .args .y) (b .border-of .ensures) (m .least .ensures) (t .before .before .if1 .left) (bit-is (t .before .is-set .ensures) (t .if2 .left)) (bit-is (u .before .is-set2 .ensures) (u .if3 .taken))
 
 sub-last : tie.Need-sub-last
 sub-last c = search needs
@@ -166,7 +166,7 @@ lower-row-spec =
     saved-row-requires
     returns-2
     is-set-requires-2
-    smaller-requires
+    least-requires
     mul-saved-row-2
     add-saved-row-2
     saved-row-requires-2

@@ -14,10 +14,10 @@ use Rattle.definition.specs.Blocks.{maskAt}
 use Rattle.definition.specs.Units.{Operation, user, pretrained, border, setSize, Given, Lent}
 use Rattle.definition.specs.Refusals.{Sizes, sizesOf, badKept, badNoskip, badFilters, firstPass, indexLimit, nextLimit, every}
 use Rattle.laws.proofs.Lists.{tab-cong}
-use Rattle.laws.proofs.Passes.{pass-at}
+use Rattle.laws.proofs.Passes.{pass-at, not-both}
 use Rattle.history.specs.Ring.{Ring, fetch, shift, slid}
 use Rattle.model.specs.Rows.{padRow, own}
-use Rattle.model.specs.Fine.{Fine, not-both}
+use Rattle.model.specs.Fine.{Fine}
 use Rattle.refusals.specs.declared.Numbers.{Numbers}
 use Rattle.units.specs.declared.State.{State}
 use Rattle.refusals.specs.Given.{givenOf}

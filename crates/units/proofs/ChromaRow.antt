@@ -23,7 +23,7 @@ use Rattle.units.specs.Operations.{stateAt, tookOwn, tookLuma, chromaSta
 use Rattle.units.specs.Chroma.{chromaLent, lumaRowsLent}
 use Rattle.units.specs.ChromaRows.{fetchBehind, LumaFetched, ChromaStepped}
 use Rattle.units.proofs.Openings.{pad-lent}
-use Rattle.units.proofs.Behind.{set-second, sets-first, sets-second}
+use Rattle.units.proofs.TwoLists.{set-second, sets-first, sets-second}
 
 -- TWO LISTS, one behind the other
 getD-second-at : (a b : List ℕ) (i : ℕ) → getD (a ++ b) (length a + i) 0 ≡ getD b i 0

@@ -20,9 +20,9 @@ use Rattle.units.specs.declared.State.{State}
 use Rattle.units.specs.Windows.{rowsLent}
 use Rattle.units.specs.Openings.{openState, openStatus, noState, Begun}
 use Rattle.units.specs.Chroma.{chromaLent, lumaRowsLent}
-use Rattle.units.proofs.Behind.{sets-first}
+use Rattle.units.proofs.TwoLists.{sets-first}
 use Rattle.units.proofs.Openings.{pad-lent, none-unless}
-use Rattle.units.proofs.Both.{take-first, drop-first, luma-lent}
+use Rattle.units.proofs.ChromaRow.{take-first, drop-first, luma-lent}
 
 -- ROWS FILLED IN FRONT of a rest that stays
 module _ (len first : ℕ) (pad : ℕ → List ℕ) (a b : List ℕ) (sized : (R : ℕ) → length (pad R) ≡ len) where

@@ -9,10 +9,11 @@ use lib.Dec.{ltb, eqb}
 use lib.IntN.{ℤ}
 use lib.ListN.{length}
 use borrow.Author.Tests.{ltb-false}
+use Rattle.laws.proofs.Passes.{not-both}
 use Rattle.definition.specs.Padding.{hasLeft, hasRight, topIntegrated, bottomIntegrated}
 use Rattle.definition.specs.Units.{chroma, Given, Lent}
 use Rattle.definition.specs.Refusals.{Sizes, sizesOf, beside, bottomRows, lumaOutside, lumaDown, lumaAbove, lumaTopRows}
-use Rattle.model.specs.Fine.{Fine, not-both, inside}
+use Rattle.model.specs.Fine.{Fine, inside}
 use Rattle.units.specs.Chroma.{chromaLent, lumaCount, lumaTopCount}
 use Rattle.units.specs.ChromaRows.{BothLie}
 use Rattle.units.proofs.Admissions.{rows-lie}
