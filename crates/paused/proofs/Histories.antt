@@ -58,10 +58,12 @@ module _ (n : Numbers) (l : Lent) (p : List ℕ) (f : openStatus luma n l p ≡ 
   early c = answer (callOf luma c l) (openState luma n l p) p .plane
 
   state-between : (c v : ℕ) → run (unit luma n l p) (between c v) .state ≡ answer (callOf luma c l) (openState luma n l p) p .state
+  unfolding answer
   state-between zero v = refl
   state-between (suc c) v = refl
 
   plane-between : (c v : ℕ) → run (unit luma n l p) (between c v) .plane ≡ cond (eqb c 0) (early c) (set (early c) (n .off) v)
+  unfolding answer
   plane-between zero v = refl
   plane-between (suc c) v = let e : n .off + 0 * n .stride + 0 ≡ n .off = omega arith in rw (ne-eqb (suc c) 0 (omega arith)) (ap (λ (i : ℕ). set (early (suc c)) i v) e)
 
@@ -78,6 +80,7 @@ module _ (n : Numbers) (l : Lent) (p : List ℕ) (f : openStatus luma n l p ≡ 
   pub paused-whole : (c v : ℕ) (o : Opened) (a b : Advanced) (p₁ p₂ q : List ℕ) (r : Paused) → Begun luma o n l p →
       Answered a p₁ (answer (callOf luma c l) (o .state) p) → p₂ ≡ cond (eqb c 0) p₁ (set p₁ (n .off) v) →
       Answered b q (answer (callOf luma (n .h) l) (a .state) p₂) → r .status ≡ b .status → r .first ≡ a .pieces → r .rest ≡ b .pieces → Whole r n l c v p q
+  unfolding answer
   paused-whole c v o a b p₁ p₂ q r begun first over rest rs rf rr =
       let s : o .state ≡ openState luma n l p = begun .state ∙ rw f in
       let early-is : Answered a p₁ (answer (callOf luma c l) (openState luma n l p) p) = rw s at first in
@@ -111,6 +114,7 @@ module _ (n : Numbers) (l : Lent) (p : List ℕ) (f : openStatus luma n l p ≡ 
 
   -- the plane that the first advance leaves has the room that it had
   pub early-size : (c : ℕ) (o : Opened) (a : Advanced) (p₁ : List ℕ) → Begun luma o n l p → Answered a p₁ (answer (callOf luma c l) (o .state) p) → n .off < length p₁
+  unfolding answer
   early-size c o a p₁ begun first =
       let s : o .state ≡ openState luma n l p = begun .state ∙ rw f in
       let e : p₁ ≡ early c = (rw s at first) .plane in

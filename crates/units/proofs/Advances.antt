@@ -35,7 +35,7 @@ module _ (op : Operation) (l : Lent) (s₀ : State) (p₀ : List ℕ) where
   served : (count n pieces : ℕ) {s : State} {p : List ℕ} → statusOf (callOf op count l) s₀ p₀ ≡ 0 → n ≡ min count (s₀ .numbers .h - s₀ .done) →
       pieces ≡ piecesOf (l .skip) (s₀ .numbers .w / 4) (s₀ .done) n → Gone op l s₀ p₀ n s p →
       Answered (record { status = 0; pieces = pieces; state = s }) p (answer (callOf op count l) s₀ p₀)
-  unfolding advanced
+  unfolding answer advanced
   served count n pieces z en ep g = rw (z, ← en) (record { status = refl; pieces = ep; state = g .state; plane = g .plane })
 
   pub gone-first : Gone op l s₀ p₀ 0 (moved s₀ (s₀ .done + 0) (s₀ .classes) (ring (s₀ .rows) (s₀ .indices) (s₀ .next))) p₀
@@ -55,7 +55,7 @@ module _ (op : Operation) (l : Lent) (s₀ : State) (p₀ : List ℕ) where
   -- .. and one that is declined
   pub declined : (count st : ℕ) → st ≡ statusOf (callOf op count l) s₀ p₀ → (st ≡ 0 → ⊥) →
       Answered (record { status = st; pieces = 0; state = s₀ }) p₀ (answer (callOf op count l) s₀ p₀)
-  unfolding advanced
+  unfolding answer advanced
   declined count st e ne = go (statusOf (callOf op count l) s₀ p₀) _ e
     where
       go : (n : ℕ) (o : Out State) → st ≡ n →

@@ -183,7 +183,7 @@ units =
       pieces = λ c s n. piecesOf (c .lent .skip) (s .numbers .w / side) (s .done) n;
     }
 
-abbrev pub answer : Call → State → List ℕ → Out State
+unfoldable pub answer : Call → State → List ℕ → Out State
 answer c s p = advanced units c s p
 
 -- the code's answer and the plane that it left are that

@@ -44,6 +44,7 @@ module _ (op : Operation) (n : Numbers) (l : Lent) (p : List ℕ) (f : openStatu
 
   pub whole-of : (r : Restored) (q : List ℕ) → r .status ≡ answer (callOf op (n .h) l) (openState op n l p) p .status →
       r .pieces ≡ answer (callOf op (n .h) l) (openState op n l p) p .pieces → q ≡ answer (callOf op (n .h) l) (openState op n l p) p .plane → Whole op r n l p q
+  unfolding answer
   whole-of r q es ep eq =
       let before = holds opened tt in
       let after = holds (opened ▷ advance tt (n .h)) (tt, refl) in
