@@ -9,7 +9,8 @@
 Run it in a repository whose crates are proved (`rt check`, and `rt dev NAME` once for each crate, which saves the first mutant's
 time): the scratch copies, outside the repository, start from its target/. --workers N makes N of them and works on N mutants
 at a time. --log names the file with a line for each mutant (target/mutants.log), and one that it has already is not run again.
-The table and the survivors are printed at the end.
+The table and the survivors are printed at the end. --together N makes up to N mutants in one check, of functions of which none
+calls another: each function is proved by itself, so what is said of it is said of its mutant. One of which nothing is said is made again alone.
 
 Programs: a mutant is refused where `rt dev CRATE` reaches the prover and the prover does not prove it. A mutant that the
 compiler declines (a type, a literal out of range) is `not a program`, and is counted apart. A mutant that is proved survived:
@@ -36,8 +37,8 @@ import time
 
 ROOT = os.path.dirname(os.path.dirname(os.path.abspath(__file__)))
 
-# start and end in the file's text, what is put there, the kind of change, and further changes that it needs (imports)
-Site = collections.namedtuple('Site', 'file start end new kind more')
+# start and end in the file's text, what is put there, the kind of change, further changes that it needs (imports), and the function
+Site = collections.namedtuple('Site', 'file start end new kind more fn')
 
 # ---- programs
 
@@ -50,16 +51,20 @@ ORDERED = {'-', '/', '%', '<', '<=', '>', '>=', '<<', '>>'}
 CHOOSERS = {'imin', 'imax', 'min', 'max', 'iclip', 'iclip64to32', 'choose', 'either', 'both'}
 SIMPLE = re.compile(r'&?(mut )?[A-Za-z_][\w.]*$|\d\w*$')
 NUMBER = re.compile(r'(\d[\d_]*)([iu](?:8|16|32|64|size))?$')
-FN = re.compile(r'\s*(?:pub )?(?:extern "C" )?fn \w+')
+FN = re.compile(r'\s*(?:pub )?(?:extern "C" )?fn (\w+)')
+
+# a function: its name, and the text from its signature to its end
+Fn = collections.namedtuple('Fn', 'name start end')
 
 
 def bodies(text):
-    """Yields (start, end, types of the parameters) of each function's body and each constant's value."""
+    """Yields (start, end, types of the parameters, function) of each function's body and each constant's value."""
     at, where, start, indent, signature = 0, 'top', 0, '', ''
     for line in text.splitlines(True):
         bare = line.strip()
         if where == 'top' and FN.match(line):
             where, indent, signature = 'signature', line[:len(line) - len(line.lstrip())], ''
+            name, first = FN.match(line).group(1), at
         if where == 'top' and re.match(r'(pub )?const ', bare):
             where, start = 'const', at + line.index('=') + 1
         if where == 'signature':
@@ -69,10 +74,10 @@ def bodies(text):
             if bare == '{' or (bare.endswith('{') and not contract):
                 where, start = 'body', at + len(line)
         elif where == 'const' and bare.endswith(';'):
-            yield start, at + len(line), {}
+            yield start, at + len(line), {}, None
             where = 'top'
         elif where == 'body' and line.rstrip() == indent + '}':
-            yield start, at, dict(re.findall(r"(\w+): ([^,)]+?)\s*(?=[,)])", signature))
+            yield start, at, dict(re.findall(r"(\w+): ([^,)]+?)\s*(?=[,)])", signature)), Fn(name, first, at + len(line))
             where = 'top'
         at += len(line)
 
@@ -110,10 +115,10 @@ def changed_number(t):
 
 
 def program_sites(file, text):
-    for start, end, types in bodies(text):
+    for start, end, types, fn in bodies(text):
         tokens = [(m.group(), m.start(), m.end()) for m in TOKEN.finditer(text, start, end) if not m.group().startswith('//')]
         word = lambda k: tokens[k][0] if 0 <= k < len(tokens) else ''
-        put = lambda a, b, new, kind: Site(file, a, b, new, kind, ())
+        put = lambda a, b, new, kind: Site(file, a, b, new, kind, (), fn)
         for i, (t, a, b) in enumerate(tokens):
             before, behind = word(i - 1), word(i + 1)
             operand = (re.match(r'\w', before) and before not in WORDS) or before in (')', ']')
@@ -172,7 +177,7 @@ def program_sites(file, text):
 
 # ---- the definition
 
-ABOVE = ('samples laws vectors intops bounds blocks history model card_reader class_rows padding qval class_index filter refusals units'
+ABOVE = ('samples laws vectors intops bounds blocks history model card_reader features padding qval class_index filter refusals units'
          ' whole card_answer paused exports').split()
 RULE = re.compile(r'[()]|"(?:\\.|[^"\\])*"|[^\s();]+|;')
 TURNED = {'ltb': ['leb'], 'leb': ['ltb'], '+': ['-'], '-': ['+'], '*': ['+'], '/': ['%'], '%': ['/'], '+ℤ': ['-ℤ'], '-ℤ': ['+ℤ'], '*ℤ': ['+ℤ'],
@@ -230,7 +235,7 @@ def definition_sites(file, text):
             for new in news:
                 need = imported(text, new) + imported(text, '_%s_' % new)
                 kind = 'constant' if t[0] in '"0123456789' else 'rule'
-                yield Site(file, a, b, new, kind, tuple(need))
+                yield Site(file, a, b, new, kind, tuple(need), None)
     # the branches of a cond, which may stand on further lines
     for m in re.finditer(r'\bcond ', text):
         atoms, at = [], m.end()
@@ -244,7 +249,7 @@ def definition_sites(file, text):
             at = stop
         if not text[:m.start()].rsplit('\n', 1)[-1].startswith(('use', '--')):
             (p, q), (p2, q2) = atoms[1:]
-            yield Site(file, p, q2, text[p2:q2] + text[q:p2] + text[p:q], 'branches', ())
+            yield Site(file, p, q2, text[p2:q2] + text[q:p2] + text[p:q], 'branches', (), None)
 
 
 # ---- running
@@ -306,6 +311,86 @@ def verdict_of_program(folder, crate, seconds):
     return 'could not tell', 'exit %d: %s' % (status, reason(said, folder))
 
 
+def relatives(texts, crate):
+    """For each function of a crate, those that it calls or that call it, over any number of steps."""
+    calls = collections.defaultdict(set)
+    for file, text in texts.items():
+        if file.startswith(os.path.join('crates', crate, 'src')):
+            for start, end, _, fn in bodies(text):
+                if fn:
+                    calls[fn.name] |= set(re.findall(r'(\w+)\(', text[start:end]))
+    below = {}
+    for name in calls:
+        seen, ahead = set(), [name]
+        while ahead:
+            for n in calls[ahead.pop()]:
+                if n in calls and n not in seen:
+                    seen.add(n)
+                    ahead.append(n)
+        below[name] = seen
+    return {a: {b for b in calls if a == b or b in below[a] or a in below[b]} for a in calls}
+
+
+def batches(crate, sites, texts, size):
+    """The sites, up to `size` at a time, of functions that have nothing to do with each other; one of no function stands alone."""
+    kin, left = relatives(texts, crate), collections.defaultdict(list)
+    for s in sites:
+        left[s.fn.name if s.fn else None].append(s)
+    for s in left.pop(None, []):
+        yield [s]
+    while any(left.values()):
+        batch, barred = [], set()
+        for name in sorted(left, key=lambda n: -len(left[n])):
+            if left[name] and name not in barred and len(batch) < size:
+                batch.append(left[name].pop())
+                barred |= kin[name]
+        yield batch
+
+
+def own_errors(site, text, said):
+    """What was said of the proof of the site's function."""
+    stem = os.path.splitext(os.path.basename(site.file))[0]
+    proof = re.compile(r'/proofs/%s%s/' % (r'([A-Z]\w*/)?' if stem == 'lib' else stem + '/', site.fn.name))
+    place = re.compile(re.escape(os.path.join('src', os.path.basename(site.file))) + r':(\d+):')
+    first, last = text.count('\n', 0, site.fn.start) + 1, text.count('\n', 0, site.fn.end) + 1
+    for line in said.splitlines():
+        where = place.search(line)
+        if proof.search(line.split(': error')[0]) or (where and first <= int(where.group(1)) <= last):
+            yield line
+
+
+def verdicts_of_programs(folder, crate, batch, texts, seconds):
+    """Of each mutant of a batch its verdict, or None where it has to be made alone."""
+    changed = collections.defaultdict(list)
+    for s in batch:
+        changed[s.file].append(s)
+    for file, sites in changed.items():
+        text = texts[file]
+        for s in sorted(sites, key=lambda s: -s.start):
+            text = mutated(text, s)
+        open(os.path.join(folder, file), 'w', encoding='utf-8').write(text)
+    if len(batch) == 1:
+        found, said, proving = [verdict_of_program(folder, crate, seconds)], '', False
+    else:
+        status, said = call(['rt', 'dev', crate], folder, seconds)
+        found, proving = [None] * len(batch), status == 1 and re.search(r'^logic=not-proved', said, re.M)
+    for file in changed:
+        open(os.path.join(folder, file), 'w', encoding='utf-8').write(texts[file])
+    for k, s in enumerate(batch):
+        lines = '\n'.join(own_errors(s, texts[s.file], said)) if said else ''
+        if proving and re.search(r': error\b|it is not proved that', lines):
+            why = reason(lines, folder)
+            found[k] = 'refused by names' if why.startswith('NAMES') else 'refused', why
+        elif not proving and 'error[' in lines:
+            found[k] = 'not a program', reason(lines, folder)
+    # what the compiler declines keeps the others from the prover
+    rest = [k for k, f in enumerate(found) if f is None]
+    if said and not proving and len(rest) < len(batch) and rest:
+        for k, f in zip(rest, verdicts_of_programs(folder, crate, [batch[k] for k in rest], texts, seconds)):
+            found[k] = f
+    return found
+
+
 def over_old_libraries(folder, crate, seconds):
     """Checks one crate over the changed definition and, of all else that it stands on, the libraries as they were: seconds in place of minutes."""
     kit = os.path.dirname(os.path.dirname(subprocess.check_output(['rt', 'doc'], text=True).split()[-1]))
@@ -341,7 +426,7 @@ def drawn(sites, limit, chance):
     for s in sites:
         seen[s.kind] += 1
         rank[s] = seen[s.kind]
-    return sorted(sorted(sites, key=lambda s: rank[s])[:limit])
+    return sorted(sorted(sites, key=lambda s: rank[s])[:limit], key=lambda s: s[:6])
 
 
 def main():
@@ -351,6 +436,7 @@ def main():
     p.add_argument('--seed', type=int, default=1)
     p.add_argument('--limit', type=int, help='at most so many sites of each crate, drawn at random')
     p.add_argument('--workers', type=int, default=1)
+    p.add_argument('--together', type=int, default=1, help='mutants of a program in one check')
     p.add_argument('--seconds', type=int, default=600, help='time for one check')
     p.add_argument('--log', default=os.path.join(ROOT, 'target/mutants.log'))
     p.add_argument('--list', action='store_true')
@@ -366,7 +452,7 @@ def main():
         for name in sorted(os.listdir(os.path.join(ROOT, folder))):
             file = os.path.join(folder, name)
             texts[file] = open(os.path.join(ROOT, file), encoding='utf-8').read()
-            sites += sorted(set((definition_sites if o.specs else program_sites)(file, texts[file])))
+            sites += sorted(set((definition_sites if o.specs else program_sites)(file, texts[file])), key=lambda s: s[:6])
         print('%s: %d sites' % (crate, len(sites)), flush=True)
         if o.limit and len(sites) > o.limit:
             sites = drawn(sites, o.limit, random.Random('%d %s' % (o.seed, crate)))
@@ -377,7 +463,7 @@ def main():
         return
 
     # a mutant that the log already has is not run again
-    todo, lock, results, known = queue.Queue(), threading.Lock(), [], {}
+    todo, lock, results, known, fresh = queue.Queue(), threading.Lock(), [], {}, collections.defaultdict(list)
     if os.path.exists(o.log):
         known = {tuple(f[2:5]): f[0] for f in (l.split('\t') for l in open(o.log, encoding='utf-8'))}
     log = open(o.log, 'a', encoding='utf-8')
@@ -386,7 +472,10 @@ def main():
         if what in known:
             results.append((crate, known[what]) + what)
         else:
-            todo.put((crate, s))
+            fresh[crate].append(s)
+    for crate, sites in fresh.items():
+        for batch in [[s] for s in sites] if o.specs else batches(crate, sites, texts, o.together):
+            todo.put((crate, batch))
     scratch = tempfile.mkdtemp(prefix='mutants-')
 
     def worker(k):
@@ -397,18 +486,28 @@ def main():
                 shutil.copytree(os.path.join(ROOT, 'target/inc', crate), os.path.join(folder, 'target/inc', crate))
         while True:
             try:
-                crate, s = todo.get_nowait()
+                crate, batch = todo.get_nowait()
             except queue.Empty:
                 return
-            path, began = os.path.join(folder, s.file), time.time()
-            open(path, 'w', encoding='utf-8').write(mutated(texts[s.file], s))
-            verdict, why = verdict_of_definition(folder, o.seconds) if o.specs else verdict_of_program(folder, crate, o.seconds)
-            open(path, 'w', encoding='utf-8').write(texts[s.file])
-            with lock:
-                place, old, new = described(s, texts[s.file])
-                results.append((crate, verdict, place, old, new))
-                log.write('\t'.join((verdict, s.kind, place, old, new, why, '%d s' % (time.time() - began))) + '\n')
-                log.flush()
+            began = time.time()
+            if o.specs:
+                path = os.path.join(folder, batch[0].file)
+                open(path, 'w', encoding='utf-8').write(mutated(texts[batch[0].file], batch[0]))
+                found = [verdict_of_definition(folder, o.seconds)]
+                open(path, 'w', encoding='utf-8').write(texts[batch[0].file])
+            else:
+                found = verdicts_of_programs(folder, crate, batch, texts, o.seconds)
+            took = (time.time() - began) / len(batch)
+            for s, f in zip(batch, found):
+                if f is None:
+                    began = time.time()
+                    f = verdicts_of_programs(folder, crate, [s], texts, o.seconds)[0]
+                    took = time.time() - began
+                with lock:
+                    place, old, new = described(s, texts[s.file])
+                    results.append((crate, f[0], place, old, new))
+                    log.write('\t'.join((f[0], s.kind, place, old, new, f[1], '%.1f s' % took)) + '\n')
+                    log.flush()
 
     workers = [threading.Thread(target=worker, args=(k,)) for k in range(o.workers)]
     for w in workers:

@@ -103,55 +103,45 @@ fn filter_runs() {
     for n in [64, 16, 4] {
         let cases = cases(n as u64, n);
 
-        let rust = |c: &Case, d: &mut [u8]| {
-            runs::ns_run(
-                &exec,
-                &mut d[..n],
-                &c.rows,
-                &c.indices,
-                ORIGIN + c.x0,
-                &c.ns,
-                n,
-            );
-            0
-        };
-        let port = |c: &Case, d: &mut [u8]| {
-            let status = exports::gihvendu_ns_wiener_fir_run(
-                &mut d[..n],
-                &c.rows,
-                &c.indices,
-                ORIGIN + c.x0,
-                &c.ns,
-                n,
-            );
-            u32::from(status)
-        };
-        line("ns_wiener_fir_run", n, measure(&cases, 1, rust, port));
-
-        let rust = |c: &Case, d: &mut [u8]| {
-            runs::pc_run(
-                &exec,
-                &mut d[..n],
-                &c.rows,
-                &c.indices,
-                ORIGIN + c.x0,
-                &c.pc,
-                n,
-            );
-            0
-        };
-        let port = |c: &Case, d: &mut [u8]| {
-            let status = exports::gihvendu_pc_wiener_fir_run(
-                &mut d[..n],
-                &c.rows,
-                &c.indices,
-                ORIGIN + c.x0,
-                &c.pc,
-                n,
-            );
-            u32::from(status)
-        };
-        line("pc_wiener_fir_run", n, measure(&cases, 1, rust, port));
+        macro_rules! ten_rows {
+            ($name:literal, $rust:path, $port:path, $filter:ident) => {
+                let rust = |c: &Case, d: &mut [u8]| {
+                    $rust(
+                        &exec,
+                        &mut d[..n],
+                        &c.rows,
+                        &c.indices,
+                        ORIGIN + c.x0,
+                        &c.$filter,
+                        n,
+                    );
+                    0
+                };
+                let port = |c: &Case, d: &mut [u8]| {
+                    u32::from($port(
+                        &mut d[..n],
+                        &c.rows,
+                        &c.indices,
+                        ORIGIN + c.x0,
+                        &c.$filter,
+                        n,
+                    ))
+                };
+                line($name, n, measure(&cases, 1, rust, port));
+            };
+        }
+        ten_rows!(
+            "ns_wiener_fir_run",
+            runs::ns_run,
+            exports::gihvendu_ns_wiener_fir_run,
+            ns
+        );
+        ten_rows!(
+            "pc_wiener_fir_run",
+            runs::pc_run,
+            exports::gihvendu_pc_wiener_fir_run,
+            pc
+        );
 
         for (step, name) in [(1, "uv_fir_run, step 1"), (2, "uv_fir_run, step 2")] {
             let rust = |c: &Case, d: &mut [u8]| {

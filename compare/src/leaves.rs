@@ -149,8 +149,14 @@ fn filter<const N: usize, T: TryFrom<i64>>(r: &mut Random, limit: i64) -> [T; N]
     })
 }
 
-fn ns_run(t: &mut Tally, exec: &ExecContext, r: &mut Random) {
-    let c: [i8; 16] = filter(r, 127);
+/// A filter run over ten rows, the Rust's and the port's.
+fn ten_rows<const N: usize, T: Copy + PartialEq>(
+    t: &mut Tally,
+    r: &mut Random,
+    c: [T; N],
+    rust: impl Fn(&mut [u8], &[u8], &[usize; 10], usize, &[T; N], usize),
+    port: impl Fn(&mut [u8], &[u8], &[usize; 10], usize, &[T; N], usize) -> u8,
+) {
     let n = run_length(r);
     let mut chance = Chance::new(r);
     let rows_len = chance.length(ROWS);
@@ -160,32 +166,27 @@ fn ns_run(t: &mut Tally, exec: &ExecContext, r: &mut Random) {
     let inside = chance.inside;
     let rows = r.bytes(rows_len);
     let mut dst = Written::new(r.bytes(dst_len));
-    let expected = by_rust(&dst.before, |d| {
-        runs::ns_run(exec, d, &rows, &indices, col0, &c, n)
-    });
+    let expected = by_rust(&dst.before, |d| rust(d, &rows, &indices, col0, &c, n));
     let lent = (rows.clone(), indices, c);
-    let status = exports::gihvendu_ns_wiener_fir_run(dst.list(), &rows, &indices, col0, &c, n);
+    let status = port(dst.list(), &rows, &indices, col0, &c, n);
     t.judge(status, expected, inside, &dst, lent == (rows, indices, c));
+}
+
+fn ns_run(t: &mut Tally, exec: &ExecContext, r: &mut Random) {
+    let c: [i8; 16] = filter(r, 127);
+    let rust = |d: &mut [u8], rows: &[u8], indices: &[usize; 10], col0, c: &[i8; 16], n| {
+        runs::ns_run(exec, d, rows, indices, col0, c, n)
+    };
+    ten_rows(t, r, c, rust, exports::gihvendu_ns_wiener_fir_run);
 }
 
 fn pc_run(t: &mut Tally, exec: &ExecContext, r: &mut Random) {
     let limit = if r.once_in(2) { 32_767 } else { 127 };
     let c: [i16; 13] = filter(r, limit);
-    let n = run_length(r);
-    let mut chance = Chance::new(r);
-    let rows_len = chance.length(ROWS);
-    let indices = chance.indices(10);
-    let col0 = 4 + chance.r.below(ROW - 8 - n + 1);
-    let (dst_len, col0, n) = (chance.length(n), chance.number(col0), chance.number(n));
-    let inside = chance.inside;
-    let rows = r.bytes(rows_len);
-    let mut dst = Written::new(r.bytes(dst_len));
-    let expected = by_rust(&dst.before, |d| {
-        runs::pc_run(exec, d, &rows, &indices, col0, &c, n)
-    });
-    let lent = (rows.clone(), indices, c);
-    let status = exports::gihvendu_pc_wiener_fir_run(dst.list(), &rows, &indices, col0, &c, n);
-    t.judge(status, expected, inside, &dst, lent == (rows, indices, c));
+    let rust = |d: &mut [u8], rows: &[u8], indices: &[usize; 10], col0, c: &[i16; 13], n| {
+        runs::pc_run(exec, d, rows, indices, col0, c, n)
+    };
+    ten_rows(t, r, c, rust, exports::gihvendu_pc_wiener_fir_run);
 }
 
 fn uv_run(t: &mut Tally, exec: &ExecContext, r: &mut Random) {

@@ -35,11 +35,11 @@
 mod advances;
 #[cfg(feature = "linked")]
 mod bench;
-mod cards;
 #[cfg(feature = "linked")]
 mod bench_units;
 #[cfg(feature = "linked")]
 mod calls;
+mod cards;
 #[cfg(feature = "linked")]
 mod differences;
 #[cfg(feature = "linked")]
@@ -49,9 +49,9 @@ mod grid;
 #[cfg(feature = "linked")]
 mod leaves;
 mod random;
-mod replay;
 #[cfg(feature = "linked")]
 mod refusals;
+mod replay;
 #[cfg(feature = "linked")]
 mod runs;
 #[allow(dead_code)]

@@ -399,73 +399,35 @@ impl ForRust<'_> {
     /// Restores the unit in a plane.
     pub fn restore(&self, exec: &ExecContext, plane: &mut [u8]) {
         let u = self.unit;
+        macro_rules! restored {
+            ($name:ident, $filters:expr $(, $more:expr)*) => {
+                $name(
+                    exec, plane, u.off, u.stride, &self.left, &u.top, u.top_off, &u.bottom, u.bottom_off, u.w, u.h, $filters, $($more,)*
+                    u.edges as u8, &self.masks,
+                )
+            };
+        }
         match u.op {
-            Operation::Luma => ns_wiener_single_y_8bpc(
-                exec,
-                plane,
-                u.off,
-                u.stride,
-                &self.left,
-                &u.top,
-                u.top_off,
-                &u.bottom,
-                u.bottom_off,
-                u.w,
-                u.h,
-                self.narrow.as_array::<16>().expect("16 numbers"),
-                u.edges as u8,
-                &self.masks,
+            Operation::Luma => restored!(
+                ns_wiener_single_y_8bpc,
+                self.narrow.as_array::<16>().expect("16 numbers")
             ),
-            Operation::User => ns_wiener_multi_8bpc(
-                exec,
-                plane,
-                u.off,
-                u.stride,
-                &self.left,
-                &u.top,
-                u.top_off,
-                &u.bottom,
-                u.bottom_off,
-                u.w,
-                u.h,
+            Operation::User => restored!(
+                ns_wiener_multi_8bpc,
                 self.narrow.as_chunks::<18>().0,
                 &u.subclass,
                 &u.noskip,
-                u.q,
-                u.edges as u8,
-                &self.masks,
+                u.q
             ),
-            Operation::Pretrained => pc_wiener_8bpc(
-                exec,
-                plane,
-                u.off,
-                u.stride,
-                &self.left,
-                &u.top,
-                u.top_off,
-                &u.bottom,
-                u.bottom_off,
-                u.w,
-                u.h,
+            Operation::Pretrained => restored!(
+                pc_wiener_8bpc,
                 self.wide.as_chunks::<13>().0,
                 &u.subclass,
                 &u.noskip,
-                u.q,
-                u.edges as u8,
-                &self.masks,
+                u.q
             ),
-            Operation::Chroma => ns_wiener_single_uv_8bpc(
-                exec,
-                plane,
-                u.off,
-                u.stride,
-                &self.left,
-                &u.top,
-                u.top_off,
-                &u.bottom,
-                u.bottom_off,
-                u.w,
-                u.h,
+            Operation::Chroma => restored!(
+                ns_wiener_single_uv_8bpc,
                 self.narrow.as_array::<18>().expect("18 numbers"),
                 &self.luma,
                 u.luma_off,
@@ -476,9 +438,7 @@ impl ForRust<'_> {
                 u.luma_bottom_off,
                 u.ss_hor,
                 u.ss_ver,
-                u.kind as i32,
-                u.edges as u8,
-                &self.masks,
+                u.kind as i32
             ),
         }
     }

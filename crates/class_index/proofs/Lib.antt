@@ -1,3 +1,2 @@
-pub mod Bends
 pub mod Skips
 pub mod Statuses

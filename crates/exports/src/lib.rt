@@ -6,7 +6,7 @@ ghost use mathlib.Core.Path.{_≡_};
 ghost use lib.ListN.{length};
 ghost use Rattle.definition.specs.ClassIndex.{term, classIndex};
 ghost use Rattle.definition.specs.Refusals.{classStatus};
-ghost use Rattle.class_index.specs.Answers.{blockFlat};
+ghost use Rattle.features.specs.Features.{blockFlat};
 ghost use Rattle.qval.specs.Answers.{termStatus, orZeroZ};
 ghost use Rattle.definition.specs.Rows.{orZero};
 ghost use Rattle.padding.specs.Padded.{backupStatus, backupRow, lpfStatus, lpfRow, lumaStatus, lumaRow, source};

@@ -9,12 +9,12 @@ use lib.Dec.{ltb, leb, eqb}
 use lib.ListN.{length}
 use borrow.Author.Tests.{lt-ltb, le-ltb, lt-leb, le-leb, ne-eqb, ltb-false}
 use Rattle.laws.proofs.Passes.{not-both}
-use Rattle.definition.specs.Padding.{hasTop, topIntegrated}
 use Rattle.definition.specs.Units.{Operation, luma, user, pretrained, chroma, border, setSize, Given, Lent}
-use Rattle.definition.specs.Refusals.{Sizes, lowest, outside, badSampling, topRows, rightOf, badLumaStride, badPair, badNoskip, badFilters, badLuma, badMapOf}
+use Rattle.definition.specs.Refusals.{Sizes, lowest, outside, badSampling, rightOf, badLumaStride, badPair, badNoskip, badFilters, badLuma, badMapOf}
 use Rattle.laws.proofs.Checks.{clear}
 use Rattle.model.specs.Fine.{is-sized}
-use Rattle.refusals.specs.Given.{operationOf, badMapLists}
+use Rattle.edges.specs.Operations.{operationOf}
+use Rattle.refusals.specs.Given.{badMapLists}
 use Rattle.refusals.proofs.Chosen.{when-chroma, unless-chroma, when-classed, unless-classed}
 use Rattle.refusals.specs.Table.{chromatic, classed, firstChecks, Within}
 
@@ -41,16 +41,6 @@ set-size-other (suc (suc (suc zero))) h k = absurd (k refl)
 set-size-other (suc (suc (suc (suc n)))) h k = refl
 
 -- BY TWO TESTS ON THE OPERATION
-first-or : (a b : Bool) (x y : ℕ) → cond a x (cond b x y) ≡ cond (a || b) x y
-first-or true b x y = refl
-first-or false b x y = refl
-
-pub top-rows-are : (o : Operation) (edges : ℕ) → cond (topIntegrated edges) (cond (chromatic o) 2 4) (cond (hasTop edges) 2 0) ≡ topRows o edges
-top-rows-are luma edges = refl
-top-rows-are user edges = refl
-top-rows-are pretrained edges = refl
-top-rows-are chroma edges = first-or (topIntegrated edges) (hasTop edges) 2 0
-
 pub cond-le : (b : Bool) (x y n : ℕ) → x ≤ n → y ≤ n → cond b x y ≤ n
 cond-le true x y n h k = h
 cond-le false x y n h k = k

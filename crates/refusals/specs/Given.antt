@@ -1,10 +1,10 @@
 -- The numbers and lengths that the code hands about, as the definition reads them.
 use mathlib.Core.Bool.{Bool, not, _||_}
 use mathlib.Core.List.{List}
-use Prim.Native.Nat.{ℕ, zero, suc, _/_}
+use Prim.Native.Nat.{ℕ, _/_}
 use lib.Dec.{eqb, ltb}
 use lib.ListN.{length}
-use Rattle.definition.specs.Units.{Operation, luma, user, pretrained, chroma, setSize, Given}
+use Rattle.definition.specs.Units.{Operation, setSize, Given}
 use Rattle.definition.specs.Refusals.{Sizes, mapSize, every}
 use Rattle.refusals.specs.declared.Numbers.{Numbers}
 use Rattle.refusals.specs.declared.Sizes as Lengths
@@ -27,14 +27,6 @@ givenOf n =
       ssVer = n .«ss_ver»;
       kind = n .kind;
     }
-
--- the number of an operation in a state: 0 is none
-abbrev pub operationOf : ℕ → Operation
-operationOf zero = chroma
-operationOf (suc zero) = luma
-operationOf (suc (suc zero)) = user
-operationOf (suc (suc (suc zero))) = pretrained
-operationOf (suc (suc (suc (suc n)))) = chroma
 
 abbrev pub sizesGiven : Lengths.Sizes → Sizes
 sizesGiven z =

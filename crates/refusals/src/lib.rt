@@ -5,11 +5,15 @@ ghost use mathlib.Core.Bool.{cond, not, _&&_, _||_};
 ghost use Prim.Native.Nat.{_-_, _/_, _%_, _^_, _≤_, _<_, max};
 ghost use lib.Dec.{ltb, eqb};
 ghost use lib.ListN.{length};
-ghost use Rattle.definition.specs.Units.{chroma, border, setSize};
-ghost use Rattle.definition.specs.Refusals.{unitStatus, lowest, every, firstPass, badShape, badKept, indexLimit, nextLimit, sized, outside, topRows, bottomRows, badStride, badPair, badPlane, badLeft, badTop, badBottom, badMasks, badFilters, lumaAbove, lumaDown, lumaTopRows, lumaOutside, badLuma};
-ghost use Rattle.refusals.specs.Given.{operationOf, givenOf, sizesGiven, badMapLists};
+ghost use Rattle.definition.specs.Units.{chroma, setSize};
+ghost use Rattle.definition.specs.Refusals.{unitStatus, lowest, every, firstPass, badShape, badKept, indexLimit, nextLimit, sized, outside, bottomRows, badStride, badPair, badPlane, badLeft, badTop, badBottom, badMasks, badFilters, lumaAbove, lumaDown, lumaTopRows, lumaOutside, badLuma};
+ghost use Rattle.refusals.specs.Given.{givenOf, sizesGiven, badMapLists};
+ghost use Rattle.edges.specs.Operations.{operationOf};
 ghost use Rattle.refusals.specs.Table.{chromatic, classed, firstChecks, laterChecks, highest, LumaWithin, Within};
 use bounds::room;
+use edges::border_of;
+use edges::is_set;
+use edges::top_rows;
 
 // The lengths of all that is lent, and whether a class map is wrong.
 pub struct Sizes {
@@ -69,20 +73,11 @@ fn code(bad: bool, n: u8, rest: u8) -> u8
     if bad { n } else { rest }
 }
 
-// Whether the bit of a value, a power of two, is set.
-fn bit(m: usize, value: usize) -> bool
-    requires { ⌜ 0 < value ⌝ }
-    ensures { λ r. ⌜ r ≡ eqb (m / value % 2) 1 ⌝ }
-{
-    m / value % 2 == 1
-}
-
 // e where the bit is set, else 0.
 fn beside(m: usize, value: usize, e: usize) -> usize
-    requires { ⌜ 0 < value ⌝ }
     ensures { λ r. ⌜ (r ≡ cond (eqb (m / value % 2) 1) e 0) × (r ≤ e) ⌝ }
 {
-    if m / value % 2 == 1 { e } else { 0 }
+    if is_set(m, value) { e } else { 0 }
 }
 
 fn is_chroma(op: usize) -> bool
@@ -95,12 +90,6 @@ fn is_classed(op: usize) -> bool
     ensures { λ r. ⌜ r ≡ classed (operationOf op) ⌝ }
 {
     if op == 2 { true } else { op == 3 }
-}
-
-fn border_of(op: usize) -> usize
-    ensures { λ r. ⌜ (r ≡ border (operationOf op)) × (r ≤ 4) ⌝ }
-{
-    if is_chroma(op) { 2 } else { 4 }
 }
 
 fn set_size(op: usize) -> usize
@@ -193,21 +182,14 @@ fn bad_left(op: usize, g: Numbers, z: Sizes) -> bool
     requires { ⌜ Within (operationOf op) (givenOf g) ⌝ }
     ensures { λ r. ⌜ r ≡ badLeft (operationOf op) (givenOf g) (sizesGiven z) ⌝ }
 {
-    both(bit(g.edges, 1), z.left < 6 * g.h)
+    both(is_set(g.edges, 1), z.left < 6 * g.h)
 }
 
-// Saved rows that are padded from above, and below.
-fn top_rows(op: usize, edges: usize) -> usize
-    ensures { λ r. ⌜ (r ≡ topRows (operationOf op) edges) × (r ≤ 4) ⌝ }
-{
-    let most = choose(is_chroma(op), 2, 4);
-    choose(bit(edges, 16), most, beside(edges, 4, 2))
-}
-
+// Saved rows that are padded from below.
 fn bottom_rows(edges: usize) -> usize
     ensures { λ r. ⌜ (r ≡ bottomRows edges) × (r ≤ 2) ⌝ }
 {
-    choose(bit(edges, 32), 0, beside(edges, 8, 2))
+    choose(is_set(edges, 32), 0, beside(edges, 8, 2))
 }
 
 // 7
@@ -284,7 +266,7 @@ fn luma_top_rows(op: usize, g: Numbers, z: Sizes) -> usize
     ensures { λ r. ⌜ (r ≡ lumaTopRows (operationOf op) (givenOf g) (sizesGiven z)) × (r ≤ 2) ⌝ }
 {
     let rows = luma_rows(g.ss_ver, g.kind, 2);
-    choose(bit(g.edges, 16), 0, beside(g.edges, 4, rows))
+    choose(is_set(g.edges, 16), 0, beside(g.edges, 4, rows))
 }
 
 fn luma_outside(

@@ -12,7 +12,8 @@ use Rattle.definition.specs.Units.{Operation, setSize, Given, Lent}
 use Rattle.definition.specs.Refusals.{Sizes, sizesOf, unitStatus, badShape, badKept, badFilters, indexLimit, nextLimit, indicesUpTo}
 use Rattle.laws.proofs.Passes.{pass-at, not-both, first-clear}
 use Rattle.model.specs.Fine.{Fine, fine}
-use Rattle.refusals.specs.Given.{operationOf, givenOf}
+use Rattle.edges.specs.Operations.{operationOf}
+use Rattle.refusals.specs.Given.{givenOf}
 use Rattle.refusals.specs.Table.{classed}
 use Rattle.refusals.proofs.Chosen.{unless-classed}
 use Rattle.units.specs.declared.State.{State}

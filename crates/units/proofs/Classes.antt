@@ -15,8 +15,8 @@ use Rattle.definition.specs.Rows.{tab, rowBytes}
 use Rattle.definition.specs.ClassIndex.{bin, term, featureBin, indexOf, classIndex}
 use Rattle.definition.specs.Refusals.{every}
 use Rattle.definition.specs.Units.{Operation, border, Given, Lent}
-use Rattle.class_rows.specs.Features.{rowStatus, featureRow, served}
-use Rattle.class_index.specs.Answers.{blockFlat, placeStatus}
+use Rattle.features.specs.Features.{rowsStatus, rowStatus, blockFlat, featureRow, served}
+use Rattle.class_index.specs.Answers.{placeStatus}
 use Rattle.definition.specs.Rows.{orZero}
 use Rattle.laws.proofs.Lists.{sets-in, sets-behind, length-tab, getD-tab}
 use Rattle.laws.proofs.Passes.{pass-all}
@@ -43,7 +43,7 @@ index-low f₀ f₁ f₂ q t =
 
 -- the call for the features is not refused, and answers each block's
 features-serve : (rows : ℕ) (indices : List ℕ) (n : ℕ) → 760 ≤ rows → ((j : ℕ) → j < 10 → getD indices j 0 ≤ 9) → n ≤ 16 → rowStatus rows indices n ≡ 0
-unfolding rowStatus
+unfolding rowsStatus
 features-serve rows indices n size small few =
     rw (le-leb 760 rows size, pass-all (λ i. leb i 9) indices 10 (λ k h. le-leb (getD indices k 0) 9 (small k h)), le-leb n 16 few)
 

@@ -1,4 +1,4 @@
--- The border by an operation's number, and the rows above and below a unit by the bits of its edges. Assumes nothing.
+-- The rows above and below a unit by the bits of its edges. Assumes nothing.
 use mathlib.Core.Path.{_≡_, refl, sym, _∙_}
 use mathlib.Core.Bool.{Bool, true, false, cond, _||_}
 use Prim.Native.Nat.{ℕ, zero, suc, _+_, _-_, _≤_, _<_, min}
@@ -7,49 +7,9 @@ use Rattle.definition.specs.Padding.{hasTop, hasBottom, topIntegrated, bottomIn
 use Rattle.definition.specs.Units.{Operation, luma, user, pretrained, chroma, border, savedAbove}
 use Rattle.definition.specs.Refusals.{topRows, bottomRows, planeRows}
 use Rattle.model.specs.Rows.{belowRows}
-use Rattle.refusals.specs.Given.{operationOf}
-
-pub border-four : (op : ℕ) → 1 ≤ op → op ≤ 3 → border (operationOf op) ≡ 4
-border-four zero h k = absurd (omega arith)
-border-four (suc zero) h k = refl
-border-four (suc (suc zero)) h k = refl
-border-four (suc (suc (suc zero))) h k = refl
-border-four (suc (suc (suc (suc n)))) h k = absurd (omega arith)
-
-pub border-two : (op : ℕ) → 3 < op → border (operationOf op) ≡ 2
-border-two zero h = absurd (omega arith)
-border-two (suc zero) h = absurd (omega arith)
-border-two (suc (suc zero)) h = absurd (omega arith)
-border-two (suc (suc (suc zero))) h = absurd (omega arith)
-border-two (suc (suc (suc (suc n)))) h = refl
-
-pub border-high : (op : Operation) → border op ≤ 4
-border-high luma = omega arith
-border-high user = omega arith
-border-high pretrained = omega arith
-border-high chroma = omega arith
-
-pub border-low : (op : Operation) → 2 ≤ border op
-border-low luma = omega arith
-border-low user = omega arith
-border-low pretrained = omega arith
-border-low chroma = omega arith
-
--- chroma's two rows are its border, with either bit
-either : (int top : Bool) → _≡_ {A = ℕ} (cond (int || top) 2 0) (cond int 2 (cond top 2 0))
-either true top = refl
-either false top = refl
+use Rattle.edges.proofs.Borders.{border-low, top-rows}
 
 module _ (op : Operation) (edges : ℕ) where
-  pub top-rows : topRows op edges ≡ cond (topIntegrated edges) (border op) (cond (hasTop edges) 2 0)
-  top-rows = of op
-    where
-      of : (op : Operation) → topRows op edges ≡ cond (topIntegrated edges) (border op) (cond (hasTop edges) 2 0)
-      of luma = refl
-      of user = refl
-      of pretrained = refl
-      of chroma = either (topIntegrated edges) (hasTop edges)
-
   pub below-rows : belowRows op edges ≡ cond (bottomIntegrated edges) (border op) (cond (hasBottom edges) 2 0)
   below-rows = of (bottomIntegrated edges) (hasBottom edges)
     where
@@ -64,21 +24,12 @@ module _ (op : Operation) (edges : ℕ) where
   rows-high false false = omega arith
 
   pub top-high : topRows op edges ≤ border op
-  top-high = rw top-rows (rows-high (topIntegrated edges) (hasTop edges))
+  top-high = rw (top-rows op edges) (rows-high (topIntegrated edges) (hasTop edges))
 
   pub below-high : belowRows op edges ≤ border op
   below-high = rw below-rows (rows-high (bottomIntegrated edges) (hasBottom edges))
 
   -- the rows by the bits as they are tested
-  pub top-integrated : {a : Bool} → a ≡ topIntegrated edges → a ≡ true → border op ≡ topRows op edges
-  top-integrated e h = sym (rw (top-rows, ← e, h))
-
-  pub top-saved : {a b : Bool} → a ≡ topIntegrated edges → a ≡ false → b ≡ hasTop edges → b ≡ true → 2 ≡ topRows op edges
-  top-saved e h f k = sym (rw (top-rows, ← e, h, ← f, k))
-
-  pub top-none : {a b : Bool} → a ≡ topIntegrated edges → a ≡ false → b ≡ hasTop edges → b ≡ false → 0 ≡ topRows op edges
-  top-none e h f k = sym (rw (top-rows, ← e, h, ← f, k))
-
   pub below-integrated : {a : Bool} → a ≡ bottomIntegrated edges → a ≡ true → border op ≡ belowRows op edges
   below-integrated e h = sym (below-rows ∙ rw (← e, h))
 

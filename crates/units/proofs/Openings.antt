@@ -11,7 +11,8 @@ use Rattle.definition.specs.Refusals.{sizesOf, unitStatus}
 use Rattle.model.specs.Rows.{padRow}
 use Rattle.model.specs.Opening.{filled, filledRows, openRing, openIndex}
 use Rattle.refusals.specs.declared.Numbers.{Numbers}
-use Rattle.refusals.specs.Given.{operationOf, givenOf}
+use Rattle.edges.specs.Operations.{operationOf}
+use Rattle.refusals.specs.Given.{givenOf}
 use Rattle.refusals.specs.Table.{chromatic}
 use Rattle.refusals.proofs.Chosen.{unless-chroma}
 use Rattle.units.specs.declared.State.{State}

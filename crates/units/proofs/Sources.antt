@@ -19,7 +19,8 @@ use Rattle.padding.specs.Padded.{backupStatus, lpfStatus, paddedRow}
 use Rattle.model.specs.Rows.{padRow, firstRow}
 use Rattle.model.specs.Fine.{Inside}
 use Rattle.units.specs.Windows.{RowsLie}
-use Rattle.units.proofs.Edges.{border-high, above-saved, saved-above}
+use Rattle.edges.proofs.Borders.{border-high}
+use Rattle.units.proofs.Edges.{above-saved, saved-above}
 
 -- NOT REFUSED
 pub served : (status : ℕ) (old written : List ℕ) → status ≡ 0 → unlessRefused status old written ≡ written

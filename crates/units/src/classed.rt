@@ -12,7 +12,8 @@ ghost use Rattle.definition.specs.Units.{luma, user, pretrained, setSize};
 ghost use Rattle.definition.specs.Refusals.{sizesOf, every};
 ghost use Rattle.definition.specs.ClassIndex.{skipFactor, skipSum, indexOf};
 ghost use Rattle.model.specs.Fine.{Sized};
-ghost use Rattle.refusals.specs.Given.{operationOf, givenOf, sizesGiven};
+ghost use Rattle.edges.specs.Operations.{operationOf};
+ghost use Rattle.refusals.specs.Given.{givenOf, sizesGiven};
 ghost use Rattle.units.specs.Windows.{rowsLent, RowsLie, ring};
 ghost use Rattle.units.specs.Operations.{answer, Answered, classAt};
 ghost use Rattle.units.specs.Advances.{callOf, Admitted};
@@ -81,7 +82,7 @@ pub fn classes_of_row(
     let n = g.w / 4;
     let by = done / 4;
     let bh = g.h / 4;
-    let f = class_rows::row_features(rows, indices, n);
+    let f = features::row_features(rows, indices, n);
     let vertical = f.vertical;
     let falling = f.falling;
     let rising = f.rising;

@@ -4,7 +4,8 @@ ghost use Rattle.units.specs.Operations.{answer, Answered, isFinished, s
 ghost use Rattle.definition.specs.Units.{luma, user, pretrained, chroma};
 ghost use Prim.Native.Nat.{ℕ, _≤_};
 ghost use mathlib.Core.List.{List};
-ghost use Rattle.refusals.specs.Given.{operationOf, sizesGiven};
+ghost use Rattle.edges.specs.Operations.{operationOf};
+ghost use Rattle.refusals.specs.Given.{sizesGiven};
 ghost use Rattle.units.specs.Windows.{ring};
 ghost use Rattle.units.specs.Openings.{Begun};
 ghost use Rattle.units.specs.Advances.{callOf};

@@ -13,7 +13,7 @@ ghost use Rattle.units.specs.Chroma.{lumaRowsLent, LumaLie};
 ghost use Rattle.padding.specs.Padded.{source};
 ghost use Rattle.units.specs.LumaFrom.{LumaFits, lumaFrom};
 use crate::rows::first_row;
-use crate::rows::is_set;
+use edges::is_set;
 use refusals::Numbers;
 
 // n columns or rows of chroma as luma's.

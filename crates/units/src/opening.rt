@@ -2,7 +2,8 @@
 ghost use mathlib.Core.Path.{_≡_};
 ghost use Prim.Native.Nat.{_≤_};
 ghost use lib.ListN.{length};
-ghost use Rattle.refusals.specs.Given.{givenOf, operationOf};
+ghost use Rattle.edges.specs.Operations.{operationOf};
+ghost use Rattle.refusals.specs.Given.{givenOf};
 ghost use Rattle.units.specs.Windows.{RowsLie, rowsLent};
 ghost use Rattle.units.specs.Openings.{noNumbers, noState, openState, stateUnless};
 use crate::Opened;

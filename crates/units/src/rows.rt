@@ -7,50 +7,19 @@ ghost use lib.Dec.{eqb};
 ghost use lib.IntN.{pos};
 ghost use Rattle.definition.specs.Units.{border};
 ghost use Rattle.definition.specs.Padding.{rowAt, after};
-ghost use Rattle.definition.specs.Refusals.{topRows};
 ghost use Rattle.padding.specs.Padded.{backupStatus, lpfStatus, paddedRow};
 ghost use mathlib.Core.List.{[], _∷_, _++_};
 ghost use Rattle.definition.specs.Rows.{tab};
 ghost use Rattle.history.specs.Ring.{wrap, slid};
 ghost use Rattle.model.specs.Rows.{padRow, firstRow, belowRows, own};
 ghost use Rattle.model.specs.Opening.{filled, openIndex};
-ghost use Rattle.refusals.specs.Given.{operationOf, givenOf};
+ghost use Rattle.edges.specs.Operations.{operationOf};
+ghost use Rattle.refusals.specs.Given.{givenOf};
 ghost use Rattle.units.specs.Windows.{rowsLent, RowsLie, ring, Fetched};
+use edges::border_of;
+use edges::is_set;
+use edges::top_rows;
 use refusals::Numbers;
-
-// The border e of an operation.
-pub fn border_of(op: usize) -> usize
-    ensures { λ r. ⌜ r ≡ border (operationOf op) ⌝ }
-{
-    if op == 0 {
-        return 2;
-    }
-    if 3 < op {
-        return 2;
-    }
-    4
-}
-
-// Whether the bit of the edges that d stands for is set.
-pub fn is_set(edges: usize, d: usize) -> bool
-    requires { ⌜ 1 ≤ d ⌝ }
-    ensures { λ r. ⌜ r ≡ eqb (edges / d % 2) 1 ⌝ }
-{
-    edges / d % 2 == 1
-}
-
-// Saved rows that are padded from above.
-fn rows_above(op: usize, edges: usize) -> usize
-    ensures { λ r. ⌜ r ≡ topRows (operationOf op) edges ⌝ }
-{
-    if is_set(edges, 16) {
-        return border_of(op);
-    }
-    if is_set(edges, 4) {
-        return 2;
-    }
-    0
-}
 
 // Rows below the unit that are padded anew: the plane's own, or saved ones.
 fn rows_below(op: usize, edges: usize) -> usize
@@ -69,7 +38,7 @@ fn rows_below(op: usize, edges: usize) -> usize
 pub fn first_row(op: usize, g: Numbers) -> usize
     ensures { λ r. ⌜ r ≡ firstRow (operationOf op) (givenOf g) ⌝ }
 {
-    border_of(op) - rows_above(op, g.edges)
+    border_of(op) - top_rows(op, g.edges)
 }
 
 // Whether row r is padded anew, and does not repeat the one before it; r counted as above.

@@ -24,7 +24,7 @@ index-of-requires : tie.Need-index-of-requires
 index-of-requires c κs =
     let a = c .before .before .before .args in
     let p = place-open (length (a .noskip .now)) (a .bx) (a .by) (a .bh) (sym (c .before .place-status .ensures) ∙ c .if1 .left) in
-    ((omega arith, omega arith, omega arith), (p .column, p .line, p .limit, p .masks))
+    (p .column, p .line, p .limit, p .masks)
 
 returns-2 : tie.Need-returns-2
 returns-2 c =

@@ -7,17 +7,23 @@ use mir.Facts.{toZ-pos}
 use Rattle.class_index.proofs.times.Statement.{statement}
 use Rattle.class_index.proofs.times.Tie as tie
 
+-- both factors are small
+product : (c : tie.Start) → c .args .f * c .args .factor ≤ 65535 * 3739
+product c =
+    let small : c .args .f ≤ 65535 = omega (arith, c .fits .f) in
+    mul-le-mul small (c .pre)
+
 mul-result : tie.Need-mul-result
-mul-result c = let h : c .args .f * c .args .factor ≤ 65535 * 3739 = mul-le-mul (c .pre .0) (c .pre .1) in omega arith
+mul-result c = let h : c .args .f * c .args .factor ≤ 65535 * 3739 = product c in omega arith
 
 cast-result : tie.Need-cast-result
 cast-result c =
-    let h : c .args .f * c .args .factor ≤ 65535 * 3739 = mul-le-mul (c .pre .0) (c .pre .1) in
+    let h : c .args .f * c .args .factor ≤ 65535 * 3739 = product c in
     record { sfits = omega arith }
 
 returns : tie.Need-returns
 returns c =
-    let h : c .args .f * c .args .factor ≤ 65535 * 3739 = mul-le-mul (c .pre .0) (c .pre .1) in
+    let h : c .args .f * c .args .factor ≤ 65535 * 3739 = product c in
     let b : c .args .f * c .args .factor < 2 ^ 31 = omega arith in
     toZ-pos w32 b
 

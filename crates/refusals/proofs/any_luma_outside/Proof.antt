@@ -3,7 +3,8 @@ use mathlib.Core.Path.{_∙_}
 use mathlib.Core.Bool.{_||_}
 use borrow.Author.Needs.{needs}
 use Rattle.definition.specs.Refusals.{lumaOutside}
-use Rattle.refusals.specs.Given.{operationOf, givenOf, sizesGiven}
+use Rattle.edges.specs.Operations.{operationOf}
+use Rattle.refusals.specs.Given.{givenOf, sizesGiven}
 use Rattle.refusals.proofs.any_luma_outside.Statement.{statement}
 use Rattle.refusals.proofs.any_luma_outside.Tie as tie
 

@@ -4,7 +4,8 @@ use mathlib.Core.Bool.{not, _||_}
 use Prim.Native.Nat.{_%_}
 use lib.Dec.{eqb}
 use borrow.Author.Needs.{needs}
-use Rattle.refusals.specs.Given.{operationOf, givenOf, sizesGiven}
+use Rattle.edges.specs.Operations.{operationOf}
+use Rattle.refusals.specs.Given.{givenOf, sizesGiven}
 use Rattle.refusals.proofs.Refused.{filters-classed, filters-other}
 use Rattle.refusals.proofs.bad_filters.Statement.{statement}
 use Rattle.refusals.proofs.bad_filters.Tie as tie

@@ -5,7 +5,7 @@ use Prim.Native.Nat.{_/_}
 use lib.Dec.{ltb}
 use Rattle.definition.specs.Units.{setSize}
 use Rattle.definition.specs.Refusals.{firstPass, badKept}
-use Rattle.refusals.specs.Given.{operationOf}
+use Rattle.edges.specs.Operations.{operationOf}
 use Rattle.refusals.proofs.Chosen.{when-classed, unless-classed}
 use borrow.Author.Needs.{needs}
 use Rattle.refusals.proofs.bad_kept.Statement.{statement}

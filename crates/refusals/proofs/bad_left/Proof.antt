@@ -7,8 +7,8 @@ use borrow.Author.Needs.{needs}
 use Rattle.refusals.proofs.bad_left.Statement.{statement}
 use Rattle.refusals.proofs.bad_left.Tie as tie
 
-bit-requires : tie.Need-bit-requires
-bit-requires c κs = search needs
+is-set-requires : tie.Need-is-set-requires
+is-set-requires c κs = search needs
 
 mul-both : tie.Need-mul-both
 mul-both c = search needs
@@ -19,7 +19,7 @@ both-requires c κs = search needs
 returns : tie.Need-returns
 returns c =
     let a = c .before .before .before .before .args in
-    c .both .ensures ∙ (λ i. c .before .before .before .bit .ensures i && ltb (a .z .left) (6 * a .g .h))
+    c .both .ensures ∙ (λ i. c .before .before .before .is-set .ensures i && ltb (a .z .left) (6 * a .g .h))
 
 pub bad-left-spec : {M : Type 1} → statement M
-bad-left-spec = tie.close (tie.spec bit-requires mul-both both-requires returns)
+bad-left-spec = tie.close (tie.spec is-set-requires mul-both both-requires returns)

@@ -1,7 +1,8 @@
 -- `refusals::bad_luma` meets its contract: by whether the operation is chroma. Assumes nothing.
 use mathlib.Core.Path.{sym, _∙_}
 use borrow.Author.Needs.{needs}
-use Rattle.refusals.specs.Given.{operationOf, givenOf, sizesGiven}
+use Rattle.edges.specs.Operations.{operationOf}
+use Rattle.refusals.specs.Given.{givenOf, sizesGiven}
 use Rattle.refusals.proofs.Refused.{luma-other, luma-chroma}
 use Rattle.refusals.proofs.bad_luma.Statement.{statement}
 use Rattle.refusals.proofs.bad_luma.Tie as tie

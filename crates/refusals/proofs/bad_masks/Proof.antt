@@ -4,7 +4,8 @@ use mathlib.Core.Bool.{_&&_, _||_}
 use Prim.Native.Nat.{_/_}
 use lib.Dec.{ltb}
 use borrow.Author.Needs.{needs}
-use Rattle.refusals.specs.Given.{operationOf, givenOf, sizesGiven}
+use Rattle.edges.specs.Operations.{operationOf}
+use Rattle.refusals.specs.Given.{givenOf, sizesGiven}
 use Rattle.refusals.proofs.Refused.{noskip}
 use Rattle.refusals.proofs.bad_masks.Statement.{statement}
 use Rattle.refusals.proofs.bad_masks.Tie as tie

@@ -3,7 +3,8 @@ use mathlib.Core.Path.{_∙_}
 use mathlib.Core.Bool.{_&&_, _||_}
 use lib.Dec.{ltb}
 use borrow.Author.Needs.{needs}
-use Rattle.refusals.specs.Given.{operationOf, givenOf, sizesGiven}
+use Rattle.edges.specs.Operations.{operationOf}
+use Rattle.refusals.specs.Given.{givenOf, sizesGiven}
 use Rattle.refusals.proofs.Refused.{pair}
 use Rattle.refusals.proofs.bad_pair.Statement.{statement}
 use Rattle.refusals.proofs.bad_pair.Tie as tie

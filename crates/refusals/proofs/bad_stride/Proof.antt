@@ -6,7 +6,8 @@ use lib.Dec.{ltb}
 use borrow.Author.Needs.{needs}
 use Rattle.definition.specs.Padding.{hasRight}
 use Rattle.definition.specs.Units.{border}
-use Rattle.refusals.specs.Given.{operationOf, givenOf, sizesGiven}
+use Rattle.edges.specs.Operations.{operationOf}
+use Rattle.refusals.specs.Given.{givenOf, sizesGiven}
 use Rattle.refusals.proofs.Refused.{narrow, luma-stride}
 use Rattle.refusals.proofs.bad_stride.Statement.{statement}
 use Rattle.refusals.proofs.bad_stride.Tie as tie

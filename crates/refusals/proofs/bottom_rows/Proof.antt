@@ -7,8 +7,8 @@ use Rattle.refusals.proofs.Refused.{cond-le}
 use Rattle.refusals.proofs.bottom_rows.Statement.{statement}
 use Rattle.refusals.proofs.bottom_rows.Tie as tie
 
-bit-requires : tie.Need-bit-requires
-bit-requires c κs = search needs
+is-set-requires : tie.Need-is-set-requires
+is-set-requires c κs = search needs
 
 beside-requires : tie.Need-beside-requires
 beside-requires c κs = search needs
@@ -18,9 +18,9 @@ choose-requires c κs = search needs
 
 returns : tie.Need-returns
 returns c = (
-  c .choose .ensures ∙ (λ i. cond (c .before .before .bit .ensures i) 0 (c .before .beside .ensures .0 i)),
-  rw (c .choose .ensures) (cond-le (c .before .before .bit .result) 0 (c .before .beside .result) 2 (omega arith) (omega arith)),
+  c .choose .ensures ∙ (λ i. cond (c .before .before .is-set .ensures i) 0 (c .before .beside .ensures .0 i)),
+  rw (c .choose .ensures) (cond-le (c .before .before .is-set .result) 0 (c .before .beside .result) 2 (omega arith) (omega arith)),
 )
 
 pub bottom-rows-spec : {M : Type 1} → statement M
-bottom-rows-spec = tie.close (tie.spec bit-requires beside-requires choose-requires returns)
+bottom-rows-spec = tie.close (tie.spec is-set-requires beside-requires choose-requires returns)

@@ -2,7 +2,7 @@
 use mathlib.Core.Path.{_≡_, refl, sym, _∙_}
 use borrow.Author.Needs.{needs}
 use Rattle.definition.specs.Refusals.{indexLimit}
-use Rattle.refusals.specs.Given.{operationOf}
+use Rattle.edges.specs.Operations.{operationOf}
 use Rattle.refusals.proofs.Chosen.{when-chroma, unless-chroma}
 use Rattle.refusals.proofs.index_limit.Statement.{statement}
 use Rattle.refusals.proofs.index_limit.Tie as tie

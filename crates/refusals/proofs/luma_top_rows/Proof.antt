@@ -11,8 +11,8 @@ use Rattle.refusals.proofs.luma_top_rows.Tie as tie
 luma-rows-requires : tie.Need-luma-rows-requires
 luma-rows-requires c κs = search needs
 
-bit-requires : tie.Need-bit-requires
-bit-requires c κs = search needs
+is-set-requires : tie.Need-is-set-requires
+is-set-requires c κs = search needs
 
 beside-requires : tie.Need-beside-requires
 beside-requires c κs = search needs
@@ -24,10 +24,10 @@ returns : tie.Need-returns
 returns c =
     let a = c .before .before .before .before .args in
     let rows = c .before .beside .ensures .0 ∙ (λ i. cond (hasTop (a .g .edges)) (c .before .before .before .luma-rows .ensures .0 i) 0) in (
-      c .choose .ensures ∙ (λ i. cond (c .before .before .bit .ensures i) 0 (rows i)),
-      rw (c .choose .ensures) (cond-le (c .before .before .bit .result) 0 (c .before .beside .result) 2 (omega arith) (omega arith)),
+      c .choose .ensures ∙ (λ i. cond (c .before .before .is-set .ensures i) 0 (rows i)),
+      rw (c .choose .ensures) (cond-le (c .before .before .is-set .result) 0 (c .before .beside .result) 2 (omega arith) (omega arith)),
     )
 
 pub luma-top-rows-spec : {M : Type 1} → statement M
 luma-top-rows-spec =
-    tie.close (tie.spec luma-rows-requires bit-requires beside-requires choose-requires returns)
+    tie.close (tie.spec luma-rows-requires is-set-requires beside-requires choose-requires returns)

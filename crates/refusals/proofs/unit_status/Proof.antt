@@ -3,7 +3,8 @@ use mathlib.Core.Path.{sym, _∙_}
 use borrow.Author.Needs.{needs}
 use Rattle.definition.specs.Refusals.{unitStatus}
 use Rattle.laws.proofs.Checks.{stops, passes}
-use Rattle.refusals.specs.Given.{operationOf, givenOf, sizesGiven}
+use Rattle.edges.specs.Operations.{operationOf}
+use Rattle.refusals.specs.Given.{givenOf, sizesGiven}
 use Rattle.refusals.specs.Table.{firstChecks, laterChecks}
 use Rattle.refusals.proofs.Refused.{within}
 use Rattle.refusals.proofs.unit_status.Statement.{statement}

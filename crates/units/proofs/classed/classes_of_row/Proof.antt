@@ -11,7 +11,7 @@ use mir.Val.{toZ, ofZ}
 use mir.Facts.{toZ-ofZ}
 use Rattle.definition.specs.Rows.{tab}
 use Rattle.definition.specs.ClassIndex.{skipSum, indexOf}
-use Rattle.class_rows.specs.Features.{featureAt}
+use Rattle.features.specs.Features.{featureAt}
 use Rattle.laws.proofs.Lists.{sets-more, tab-cong}
 use Rattle.refusals.specs.Given.{givenOf}
 use Rattle.units.specs.Windows.{ring}

@@ -1,6 +1,6 @@
 -- `classed::fetch_rows` meets its contract: the newest row by `fetch_row`, and the tenth by whether a block row begins. Assumes nothing.
 use native.Mathlib.Omega.{arith}
-use Rattle.units.proofs.Edges.{border-four}
+use Rattle.edges.proofs.Borders.{border-four}
 use Rattle.units.proofs.Classes.{took-plain, took-tenth}
 use borrow.Author.Needs.{needs}
 use Rattle.units.proofs.classed.fetch_rows.Statement.{statement}

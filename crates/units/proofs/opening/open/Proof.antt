@@ -1,6 +1,6 @@
 -- `opening::open` meets its contract: by the status. Assumes nothing.
 use mathlib.Core.Path.{refl, _∙_}
-use Rattle.refusals.specs.Given.{operationOf}
+use Rattle.edges.specs.Operations.{operationOf}
 use Rattle.units.specs.Windows.{rowsLent}
 use Rattle.units.specs.Openings.{openState}
 use Rattle.units.proofs.Openings.{none-unless}

@@ -3,8 +3,8 @@ use mathlib.Core.Path.{refl}
 use Prim.Native.Nat.{_+_}
 use native.Mathlib.Omega.{arith}
 use borrow.Author.Needs.{needs}
-use Rattle.refusals.specs.Given.{operationOf}
-use Rattle.units.proofs.Edges.{border-high, border-low}
+use Rattle.edges.specs.Operations.{operationOf}
+use Rattle.edges.proofs.Borders.{border-high, border-low}
 use Rattle.units.proofs.Rings.{fetched-own, fetched-again}
 use Rattle.units.proofs.rows.fetch_row.Statement.{statement}
 use Rattle.units.proofs.rows.fetch_row.Tie as tie
@@ -52,7 +52,7 @@ returns c =
     let t = p .before in
     let o = t .before in
     let b = o .before in
-    fetched-own _ _ _ _ _ _ _ _ (λ i. b .border-of .ensures i + b .border-of .ensures i) (o .is-own .ensures) (t .if1 .taken) (p .padded-row .ensures)
+    fetched-own _ _ _ _ _ _ _ _ (λ i. b .border-of .ensures .0 i + b .border-of .ensures .0 i) (o .is-own .ensures) (t .if1 .taken) (p .padded-row .ensures)
     (c .before .put-row .ensures) (c .next-slot .ensures)
 
 sub-before : tie.Need-sub-before
@@ -81,7 +81,7 @@ returns-2 c =
     let t = c .before .before in
     let o = t .before in
     let b = o .before in
-    fetched-again _ _ _ _ _ _ _ _ (λ i. b .border-of .ensures i + b .border-of .ensures i) (o .is-own .ensures) (t .if1 .left) refl (c .next-slot2 .ensures)
+    fetched-again _ _ _ _ _ _ _ _ (λ i. b .border-of .ensures .0 i + b .border-of .ensures .0 i) (o .is-own .ensures) (t .if1 .left) refl (c .next-slot2 .ensures)
 
 pub fetch-row-spec : {M : Type 1} → statement M
 fetch-row-spec =

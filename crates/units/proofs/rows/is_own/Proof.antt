@@ -3,8 +3,9 @@ use Prim.Native.Nat.{_+_}
 use native.Mathlib.Omega.{arith}
 use lib.Dec.{ltb}
 use borrow.Author.Needs.{needs}
-use Rattle.refusals.specs.Given.{operationOf}
-use Rattle.units.proofs.Edges.{border-high, below-high}
+use Rattle.edges.specs.Operations.{operationOf}
+use Rattle.edges.proofs.Borders.{border-high}
+use Rattle.units.proofs.Edges.{below-high}
 use Rattle.units.proofs.rows.is_own.Statement.{statement}
 use Rattle.units.proofs.rows.is_own.Tie as tie
 
@@ -23,7 +24,7 @@ add-result-2 c =
     omega (arith, border-high (operationOf (a .op)), below-high (operationOf (a .op)) (a .g .edges))
 
 returns : tie.Need-returns
-returns c = let a = c .before .before .before .args in λ i. ltb (a .r) (a .g .h + c .before .before .border-of .ensures i + c .rows-below .ensures i)
+returns c = let a = c .before .before .before .args in λ i. ltb (a .r) (a .g .h + c .before .before .border-of .ensures .0 i + c .rows-below .ensures i)
 
 pub is-own-spec : {M : Type 1} → statement M
 is-own-spec =

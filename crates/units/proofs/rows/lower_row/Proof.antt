@@ -3,7 +3,7 @@ use mathlib.Core.Path.{_∙_}
 use Prim.Native.Nat.{_-_}
 use native.Mathlib.Omega.{arith}
 use borrow.Author.Needs.{needs}
-use Rattle.refusals.specs.Given.{operationOf}
+use Rattle.edges.specs.Operations.{operationOf}
 use Rattle.units.proofs.Edges.{bit-is, plane-row, bottom-row}
 use Rattle.units.proofs.Sources.{plane-inside, bottom-inside, own-fits, plane-fits, bottom-fits, own-is, plane-is, bottom-is, last-is}
 use Rattle.units.proofs.rows.lower_row.Statement.{statement}
@@ -32,13 +32,13 @@ own-row-requires : tie.Need-own-row-requires
 own-row-requires c κs =
     let b = c .before .before .before .before in
     let s = b .before .before .before .before .before in
-    own-fits (s .pre .0) (s .args .y) (b .border-of .ensures) (omega arith)
+    own-fits (s .pre .0) (s .args .y) (b .border-of .ensures .0) (omega arith)
 
 returns : tie.Need-returns
 returns c =
     let b = c .before .before .before .before .before in
     let s = b .before .before .before .before .before in
-    c .own-row .ensures ∙ own-is _ _ _ _ (s .args .y) (b .border-of .ensures) (omega arith)
+    c .own-row .ensures ∙ own-is _ _ _ _ (s .args .y) (b .border-of .ensures .0) (omega arith)
 
 is-set-requires : tie.Need-is-set-requires
 is-set-requires c κs = search needs
@@ -60,7 +60,7 @@ saved-row-requires c κs =
     let t = c .before .before in
     let b = t .before .before .before .before in
     let s = b .before .before .before .before .before in
-    plane-fits (s .pre .0) (s .args .y) (b .border-of .ensures) (omega arith)
+    plane-fits (s .pre .0) (s .args .y) (b .border-of .ensures .0) (omega arith)
     (plane-row (operationOf (s .args .op)) (s .args .g .edges) (s .args .g .h) (s .pre .1) (bit-is (t .before .is-set .ensures) (t .if2 .taken)))
 
 returns-2 : tie.Need-returns-2
@@ -68,7 +68,7 @@ returns-2 c =
     let t = c .before .before .before in
     let b = t .before .before .before .before in
     let s = b .before .before .before .before .before in
-    c .saved-row .ensures ∙ plane-is _ _ _ _ (s .args .y) (b .border-of .ensures) (omega arith) (bit-is (t .before .is-set .ensures) (t .if2 .taken))
+    c .saved-row .ensures ∙ plane-is _ _ _ _ (s .args .y) (b .border-of .ensures .0) (omega arith) (bit-is (t .before .is-set .ensures) (t .if2 .taken))
 
 is-set-requires-2 : tie.Need-is-set-requires-2
 is-set-requires-2 c κs = search needs
@@ -99,7 +99,7 @@ saved-row-requires-2 c κs =
     let t = u .before .before in
     let b = t .before .before .before .before in
     let s = b .before .before .before .before .before in
-    bottom-fits (s .pre .0) (m .least .result) (b .border-of .ensures)
+    bottom-fits (s .pre .0) (m .least .result) (b .border-of .ensures .0)
     (bottom-row (s .args .g .edges) (s .args .y - s .args .g .h) (m .least .ensures) (bit-is (t .before .is-set .ensures) (t .if2 .left)) (bit-is (u .before .is-set2 .ensures) (u .if3 .taken)))
 
 returns-3 : tie.Need-returns-3
@@ -110,7 +110,7 @@ returns-3 c =
     let b = t .before .before .before .before in
     let s = b .before .before .before .before .before in
     c .saved-row2 .ensures ∙
-    bottom-is _ _ _ _ (s .args .y) (b .border-of .ensures) (m .least .ensures) (t .before .before .if1 .left) (bit-is (t .before .is-set .ensures) (t .if2 .left)) (bit-is (u .before .is-set2 .ensures) (u .if3 .taken))
+    bottom-is _ _ _ _ (s .args .y) (b .border-of .ensures .0) (m .least .ensures) (t .before .before .if1 .left) (bit-is (t .before .is-set .ensures) (t .if2 .left)) (bit-is (u .before .is-set2 .ensures) (u .if3 .taken))
 
 sub-last : tie.Need-sub-last
 sub-last c = search needs
@@ -139,7 +139,7 @@ own-row-requires-2 : tie.Need-own-row-requires-2
 own-row-requires-2 c κs =
     let b = c .before .before .before .before .before .before .before .before .before in
     let s = b .before .before .before .before .before in
-    own-fits (s .pre .0) (s .args .g .h - 1) (b .border-of .ensures) (omega (arith, s .pre .0 .tall .low))
+    own-fits (s .pre .0) (s .args .g .h - 1) (b .border-of .ensures .0) (omega (arith, s .pre .0 .tall .low))
 
 returns-4 : tie.Need-returns-4
 returns-4 c =
@@ -147,7 +147,7 @@ returns-4 c =
     let t = u .before .before in
     let b = t .before .before .before .before in
     let s = b .before .before .before .before .before in
-    c .own-row2 .ensures ∙ last-is _ _ _ _ (s .args .y) (b .border-of .ensures) (omega arith) (bit-is (t .before .is-set .ensures) (t .if2 .left)) (bit-is (u .before .is-set2 .ensures) (u .if3 .left))
+    c .own-row2 .ensures ∙ last-is _ _ _ _ (s .args .y) (b .border-of .ensures .0) (omega arith) (bit-is (t .before .is-set .ensures) (t .if2 .left)) (bit-is (u .before .is-set2 .ensures) (u .if3 .left))
 
 pub lower-row-spec : {M : Type 1} → statement M
 lower-row-spec =

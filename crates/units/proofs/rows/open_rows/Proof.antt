@@ -7,9 +7,10 @@ use borrow.Author.Needs.{needs}
 use Rattle.definition.specs.Units.{border}
 use Rattle.model.specs.Rows.{first-low}
 use Rattle.model.specs.Opening.{filled}
-use Rattle.refusals.specs.Given.{operationOf, givenOf}
+use Rattle.edges.specs.Operations.{operationOf}
+use Rattle.refusals.specs.Given.{givenOf}
 use Rattle.units.specs.Windows.{rowsLent}
-use Rattle.units.proofs.Edges.{border-high}
+use Rattle.edges.proofs.Borders.{border-high}
 use Rattle.units.proofs.Rings.{filled-none, filled-more}
 use Rattle.units.proofs.rows.open_rows.Statement.{statement}
 use Rattle.units.proofs.rows.open_rows.Tie as tie

@@ -5,7 +5,7 @@ use native.Mathlib.Omega.{arith}
 use borrow.Author.Needs.{needs}
 use Rattle.definition.specs.Units.{border}
 use Rattle.model.specs.Rows.{padRow}
-use Rattle.refusals.specs.Given.{operationOf}
+use Rattle.edges.specs.Operations.{operationOf}
 use Rattle.units.proofs.Sources.{top-inside, top-fits, top-is}
 use Rattle.units.proofs.rows.padded_row.Statement.{statement}
 use Rattle.units.proofs.rows.padded_row.Tie as tie
@@ -36,7 +36,7 @@ saved-row-requires c κs =
     let f = c .before .before in
     let b = f .before .before in
     let s = b .before .before .before .before .before in
-    top-fits (s .pre .0) (s .args .r - f .first-row .result) (b .border-of .ensures) (omega arith)
+    top-fits (s .pre .0) (s .args .r - f .first-row .result) (b .border-of .ensures .0) (omega arith)
 
 returns : tie.Need-returns
 returns c =
@@ -44,7 +44,7 @@ returns c =
     let b = f .before .before in
     let s = b .before .before .before .before .before in
     c .saved-row .ensures ∙
-    top-is _ _ _ _ (s .args .r) (b .border-of .ensures) (ap (λ (n : ℕ). s .args .r - n) (f .first-row .ensures)) (s .pre .1 .0) (omega arith)
+    top-is _ _ _ _ (s .args .r) (b .border-of .ensures .0) (ap (λ (n : ℕ). s .args .r - n) (f .first-row .ensures)) (s .pre .1 .0) (omega arith)
 
 lower-row-requires : tie.Need-lower-row-requires
 lower-row-requires c κs = search needs

@@ -1,7 +1,7 @@
 -- `units::rows::rows_below` meets its contract: the rows by the two bits, as `Edges` has them. Assumes nothing.
 use mathlib.Core.Path.{_∙_}
 use borrow.Author.Needs.{needs}
-use Rattle.refusals.specs.Given.{operationOf}
+use Rattle.edges.specs.Operations.{operationOf}
 use Rattle.units.proofs.Edges.{below-integrated, below-saved, below-none}
 use Rattle.units.proofs.rows.rows_below.Statement.{statement}
 use Rattle.units.proofs.rows.rows_below.Tie as tie
@@ -16,7 +16,7 @@ returns : tie.Need-returns
 returns c =
     let t = c .before in
     let a = t .before .before .args in
-    c .border-of .ensures ∙ below-integrated (operationOf (a .op)) (a .edges) (t .before .is-set .ensures) (t .if1 .taken)
+    c .border-of .ensures .0 ∙ below-integrated (operationOf (a .op)) (a .edges) (t .before .is-set .ensures) (t .if1 .taken)
 
 is-set-requires-2 : tie.Need-is-set-requires-2
 is-set-requires-2 c κs = search needs
