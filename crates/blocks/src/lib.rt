@@ -95,12 +95,10 @@ pub fn class_stretch(mask: u16, classes: &[u8; 16], bx: usize, bw: usize) -> Str
     while at < bw {
         if !is_masked(mask, at) {
             let class = classes[at];
+            let limit = masked_end(mask, at + 1, bw);
             let mut next = at + 1;
             let end = loop {
-                if bw <= next {
-                    break next;
-                }
-                if is_masked(mask, next) {
+                if limit <= next {
                     break next;
                 }
                 if classes[next] != class {

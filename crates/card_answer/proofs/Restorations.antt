@@ -2,7 +2,7 @@
 use mathlib.Core.Path.{_≡_, refl, sym, ap, _∙_}
 use mathlib.Core.Bool.{true, false, _&&_}
 use mathlib.Core.List.{List, []}
-use Prim.Native.Nat.{ℕ, zero, suc, _+_, _-_, _*_, _/_, _%_, _≤_, _<_}
+use Prim.Native.Nat.{ℕ, zero, suc, _+_, _*_, _/_, _%_, _≤_, _<_}
 use native.Mathlib.Nat.{add-zero, mod-lt, div-add-mod', div-lt-iff-lt-mul, mul-comm, suc-mul}
 use native.Mathlib.Omega.{arith}
 use borrow.Author.Tests.{le-ltb, leb-true}
@@ -19,8 +19,8 @@ use Rattle.laws.proofs.Lists.{length-tab, getD-tab}
 use Rattle.laws.proofs.Checks.{cleared}
 use Rattle.card_reader.proofs.Cards.{sized-le}
 use Rattle.refusals.specs.Given.{givenOf}
-use Rattle.units.specs.Luma.{lumaLent, numbersY}
-use Rattle.units.specs.Openings.{openStatus}
+use Rattle.units.specs.Lent.{lumaLent}
+use Rattle.units.specs.Openings.{numbersY, openStatus}
 use Rattle.whole.specs.Whole.{Whole}
 use Rattle.whole.specs.declared.Restored.{Restored}
 use Rattle.card_answer.specs.Answers.{planeOf}

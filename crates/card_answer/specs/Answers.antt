@@ -9,7 +9,8 @@ use Rattle.definition.specs.Blocks.{side, piecesOf}
 use Rattle.definition.specs.Units.{luma, finalSample}
 use Rattle.definition.specs.Card.{headText, rowsText, cardAnswer}
 use Rattle.refusals.specs.Given.{givenOf}
-use Rattle.units.specs.Luma.{lumaLent, numbersY}
+use Rattle.units.specs.Lent.{lumaLent}
+use Rattle.units.specs.Openings.{numbersY}
 use Rattle.card_answer.specs.declared.Answer.{Answer}
 
 -- the answer to a card's bytes, and zeros behind it

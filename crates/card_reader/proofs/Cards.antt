@@ -142,9 +142,6 @@ module _ (n : ℕ) (s t : List ℕ) (alike : (i : ℕ) → i < n → inputAt s i
   byte-at : (m k : ℕ) → k < m → (p : ℕ) → p + m ≤ n → inputAt s (p + k) ≡ inputAt t (p + k)
   byte-at m k h p e = alike (p + k) (omega arith)
 
-  first-at : (m : ℕ) → 0 < m → (p : ℕ) → p + m ≤ n → inputAt s p ≡ inputAt t p
-  first-at m h p e = alike p (omega arith)
-
   decimal-reach : (x y z b c d end p : ℕ) → Reaches (p + 4) (decimalOf x y z b c d end p)
   unfolding decimalOf
   decimal-reach x y z b c d end p =
@@ -322,12 +319,6 @@ module _ (s : List ℕ) (p : ℕ) {q : ℕ} where
   pub pair-ends : {v : ℕ} → pairAt s p ≡ value v q → q ≤ p + 2
   pair-ends e = reached (pair-local 0 s s (itself s)) e
 
-  pub group-ends : (end : ℕ) {v : ℕ} → groupAt s end p ≡ value v q → q ≤ p + 5
-  group-ends end e = reached (group-local 0 s s (itself s) end) e
-
-  pub tap-ends : (end : ℕ) {v : ℤ} → tapAt s end p ≡ value v q → q ≤ p + 5
-  tap-ends end e = reached (tap-local 0 s s (itself s) end) e
-
   pub word-ends : (w : List ℕ) → wordAt s w p ≡ value word q → q ≤ p + length w
   word-ends w e = reached (word-local 0 s s (itself s) w) e
 
@@ -339,9 +330,6 @@ module _ (s : List ℕ) (p : ℕ) {q : ℕ} where
 
   pub skip-ends : (n : ℕ) {v : List ℕ} → skipAt s n p ≡ value v q → q ≤ p + (5 + n * 5)
   skip-ends n e = reached (skip-local 0 s s (itself s) n) e
-
-  pub row-ends : (w : ℕ) {v : List ℕ} → rowAt s w p ≡ value v q → q ≤ p + (4 + (w * 2 + 1))
-  row-ends w e = reached (row-local 0 s s (itself s) w) e
 
 -- where n values end, each of which takes at most m places
 pub several-ends : {A : Type 0} (m : ℕ) (f : ℕ → ℕ → Reading A) → ((k : ℕ) → Local 0 m (f k) (f k)) → (n p : ℕ) {q : ℕ} {l : List A} → several f n p ≡ value l q → q ≤ p + n * m

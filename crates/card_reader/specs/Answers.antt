@@ -1,7 +1,7 @@
 -- What the reader's answers mean: document 01's values for each case of an enum, and its numbers for a card's.
 use mathlib.Core.Path.{_≡_}
 use mathlib.Core.List.{List, _++_}
-use Prim.Native.Nat.{ℕ, _+_, _-_, _<_}
+use Prim.Native.Nat.{ℕ, _-_, _<_}
 use lib.IntN.{ℤ, pos}
 use lib.ListN.{length, replicate, drop}
 use Rattle.definition.specs.Card.{Reading, value, wrong, Meaning, whole, refused, joined}

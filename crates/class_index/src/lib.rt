@@ -1,8 +1,8 @@
 // looprestoration.rs: the class index of a block, at depth 8. Nothing is written; what is refused answers its status and zeros.
 ghost use mathlib.Core.Path.{_≡_};
 ghost use mathlib.Core.Bool.{cond};
-ghost use Prim.Native.Nat.{ℕ, _+_, _-_, _*_, _/_, _%_, _<_, _≤_, min};
-ghost use lib.IntN.{ℤ, pos, _+ℤ_};
+ghost use Prim.Native.Nat.{_+_, _-_, _*_, _%_, _<_, _≤_, min};
+ghost use lib.IntN.{pos, _+ℤ_};
 ghost use lib.ListN.{length, getD};
 ghost use Rattle.definition.specs.Numbers.{bitSet, toI32};
 ghost use Rattle.definition.specs.ClassIndex.{term, bin, skipSum, skipFactor, indexOf, classIndex};

@@ -1,7 +1,7 @@
 ghost use Rattle.definition.specs.Units.{luma, chroma};
 ghost use Rattle.units.specs.Operations.{answer, Answered};
 ghost use Rattle.units.specs.Advances.{callOf};
-ghost use Rattle.units.specs.Chroma.{chromaLent};
+ghost use Rattle.units.specs.Lent.{chromaLent};
 use units::Advanced;
 use units::State;
 

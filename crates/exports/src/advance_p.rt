@@ -1,7 +1,7 @@
 ghost use Rattle.definition.specs.Units.{pretrained};
 ghost use Rattle.units.specs.Operations.{answer, Answered};
 ghost use Rattle.units.specs.Advances.{callOf};
-ghost use Rattle.units.specs.Classed.{classedLent};
+ghost use Rattle.units.specs.Lent.{classedLent};
 use units::Advanced;
 use units::State;
 

@@ -1,7 +1,7 @@
 ghost use Rattle.definition.specs.Units.{luma};
 ghost use Rattle.units.specs.Operations.{answer, Answered};
 ghost use Rattle.units.specs.Advances.{callOf};
-ghost use Rattle.units.specs.Luma.{lumaLent};
+ghost use Rattle.units.specs.Lent.{lumaLent};
 use units::Advanced;
 use units::State;
 

@@ -1,6 +1,6 @@
 ghost use Rattle.definition.specs.Units.{luma, chroma};
-ghost use Rattle.units.specs.Openings.{Begun};
-ghost use Rattle.units.specs.Chroma.{chromaLent, numbersC};
+ghost use Rattle.units.specs.Openings.{Begun, numbersC};
+ghost use Rattle.units.specs.Lent.{chromaLent};
 use units::Opened;
 
 #[no_mangle]

@@ -1,7 +1,6 @@
 ghost use Rattle.definition.specs.Units.{pretrained};
-ghost use Rattle.units.specs.Openings.{Begun};
-ghost use Rattle.units.specs.Classed.{classedLent};
-ghost use Rattle.units.specs.Luma.{numbersY};
+ghost use Rattle.units.specs.Openings.{Begun, numbersY};
+ghost use Rattle.units.specs.Lent.{classedLent};
 use units::Opened;
 
 #[no_mangle]

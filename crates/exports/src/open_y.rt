@@ -1,6 +1,6 @@
 ghost use Rattle.definition.specs.Units.{luma};
-ghost use Rattle.units.specs.Openings.{Begun};
-ghost use Rattle.units.specs.Luma.{lumaLent, numbersY};
+ghost use Rattle.units.specs.Openings.{Begun, numbersY};
+ghost use Rattle.units.specs.Lent.{lumaLent};
 use units::Opened;
 
 #[no_mangle]

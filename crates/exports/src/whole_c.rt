@@ -1,6 +1,7 @@
 ghost use Rattle.definition.specs.Units.{luma, chroma};
 ghost use Rattle.whole.specs.Whole.{Whole};
-ghost use Rattle.units.specs.Chroma.{chromaLent, numbersC};
+ghost use Rattle.units.specs.Lent.{chromaLent};
+ghost use Rattle.units.specs.Openings.{numbersC};
 use whole::Restored;
 
 #[no_mangle]

@@ -1,7 +1,7 @@
 ghost use Rattle.definition.specs.Units.{user};
 ghost use Rattle.whole.specs.Whole.{Whole};
-ghost use Rattle.units.specs.Classed.{classedLent};
-ghost use Rattle.units.specs.Luma.{numbersY};
+ghost use Rattle.units.specs.Lent.{classedLent};
+ghost use Rattle.units.specs.Openings.{numbersY};
 use whole::Restored;
 
 #[no_mangle]

@@ -1,6 +1,7 @@
 ghost use Rattle.definition.specs.Units.{luma};
 ghost use Rattle.whole.specs.Whole.{Whole};
-ghost use Rattle.units.specs.Luma.{lumaLent, numbersY};
+ghost use Rattle.units.specs.Lent.{lumaLent};
+ghost use Rattle.units.specs.Openings.{numbersY};
 use whole::Restored;
 
 #[no_mangle]

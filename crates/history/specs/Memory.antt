@@ -2,11 +2,10 @@
 --     Memory       a memory: what is taken in for row k, what the filter then sees, and what is kept for the row after
 --     ring         a ring of padded rows
 --     both         two memories side by side: chroma's two rings
---     memo         a value that some rows work out anew and the others keep: the classes of a block row
 --     one          with any memory and any filter of one sample, the step of one row is lawful: what `Steps` asks of a kind
 -- Assumes nothing.
 use mathlib.Core.Path.{_≡_, refl, sym, _∙_, ap, subst}
-use mathlib.Core.Bool.{Bool, true, false, cond}
+use mathlib.Core.Bool.{Bool, true}
 use mathlib.Core.List.{List}
 use Prim.Native.Nat.{ℕ, zero, suc, _+_, _*_, _≤_, _<_}
 use native.Mathlib.Numerals.{add-one}
@@ -33,14 +32,6 @@ pub record Memory (M U : Type 0) (h : ℕ) (start : ℕ → ℕ) (p₀ : List �
   pub sees : (k : ℕ) (p : List ℕ) (m : M) → k < h → From (start k) p₀ p → At k m → seen k (take k p m) ≡ view k
   pub goes : (k : ℕ) (p : List ℕ) (m : M) → k < h → From (start k) p₀ p → At k m → At (k + 1) (slide (take k p m))
   pub steady : (k : ℕ) (p : List ℕ) (m : M) → k < h → From (start k) p₀ p → At k m → take k p m ≡ take k p₀ m
-
-pub chosen : {X : Type 0} (b : Bool) (x y z : X) → (b ≡ true → x ≡ z) → (b ≡ false → y ≡ z) → cond b x y ≡ z
-chosen true x y z f g = f refl
-chosen false x y z f g = g refl
-
-pub either-way : {X : Type 0} (P : X → Type 0) (b : Bool) (x y : X) → P x → P y → P (cond b x y)
-either-way P true x y f g = f
-either-way P false x y f g = g
 
 module _ {h : ℕ} {start : ℕ → ℕ} {p₀ : List ℕ} where
   -- a ring, whose newest row pad p (k + m) is read from row k's start on
@@ -74,29 +65,6 @@ module _ {h : ℕ} {start : ℕ → ℕ} {p₀ : List ℕ} where
         goes = λ k p m hk e s. (a .goes k p (m .0) hk e (s .0), b .goes k p (m .1) hk e (s .1));
         steady = λ k p m hk e s i. (a .steady k p (m .0) hk e (s .0) i, b .steady k p (m .1) hk e (s .1) i);
       }
-
-  -- a value that rows with `anew` work out, from what is seen and from the plane, and the others keep; `Ok` holds of it at all times, also where it is stale
-  abbrev pub memo : {M U X : Type 0} → (a : Memory M U h start p₀) (anew : ℕ → Bool) (calc : ℕ → List ℕ → U → X) →
-      ((k : ℕ) (p : List ℕ) → k < h → From (start k) p₀ p → calc k p (a .view k) ≡ calc k p₀ (a .view k)) →
-      (val : ℕ → X) → ((k : ℕ) → anew k ≡ true → calc k p₀ (a .view k) ≡ val k) → ((k : ℕ) → anew (k + 1) ≡ false → val k ≡ val (k + 1)) →
-      (Ok : X → Type 0) → ((k : ℕ) (p : List ℕ) (v : U) → Ok (calc k p v)) →
-      Memory (M × X) (U × X) h start p₀
-  memo {M} {U} {X} a anew calc same val new old Ok fair =
-      record {
-        take = λ k p m. (a .take k p (m .0), cond (anew k) (calc k p (a .seen k (a .take k p (m .0)))) (m .1));
-        seen = λ k m. (a .seen k (m .0), m .1);
-        slide = λ m. (a .slide (m .0), m .1);
-        At = λ k m. a .At k (m .0) × (anew k ≡ false → m .1 ≡ val k) × Ok (m .1);
-        view = λ k. (a .view k, val k);
-        sees = λ k p m hk e s i. (a .sees k p (m .0) hk e (s .0) i, now k p m hk e s i);
-        goes = λ k p m hk e s.
-            (a .goes k p (m .0) hk e (s .0), λ n. now k p m hk e s ∙ old k n, either-way Ok (anew k) _ _ (fair k p (a .seen k (a .take k p (m .0)))) (s .2));
-        steady = λ k p m hk e s i. (a .steady k p (m .0) hk e (s .0) i, (now k p m hk e s ∙ sym (now k p₀ m hk (λ j h. refl) s)) i);
-      }
-    where
-      now : (k : ℕ) (p : List ℕ) (m : M × X) → k < h → From (start k) p₀ p → a .At k (m .0) × (anew k ≡ false → m .1 ≡ val k) × Ok (m .1) →
-          cond (anew k) (calc k p (a .seen k (a .take k p (m .0)))) (m .1) ≡ val k
-      now k p m hk e s = chosen (anew k) _ _ _ (λ t. ap (calc k p) (a .sees k p (m .0) hk e (s .0)) ∙ same k p hk e ∙ new k t) (s .1)
 
 -- what is kept with k rows done, by the plane at the opening alone
 abbrev pub keptAt : {M U : Type 0} {h : ℕ} {start : ℕ → ℕ} {p₀ : List ℕ} → Memory M U h start p₀ → M → ℕ → M

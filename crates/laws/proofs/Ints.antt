@@ -41,9 +41,6 @@ abs-add (pos a) (negsuc b) = abs-sub a (suc b)
 abs-add (negsuc a) (pos b) = omega (arith, abs-sub b (suc a))
 abs-add (negsuc a) (negsuc b) = omega arith
 
-pub abs-minus : (x y : ℤ) → natAbs (x -ℤ y) ≤ natAbs x + natAbs y
-abs-minus x y = rw (← abs-neg y) (abs-add x (negℤ y))
-
 pub abs-mul : (x y : ℤ) → natAbs (x *ℤ y) ≡ natAbs x * natAbs y
 abs-mul (pos a) (pos b) = refl
 abs-mul (pos a) (negsuc b) = abs-neg (pos (a * suc b))
@@ -57,9 +54,6 @@ abs-mul-le x y h k = rw (abs-mul x y) (mul-le-mul h k)
 pub nonneg-add : (n : ℕ) (z : ℤ) → natAbs z ≤ n → T (nonNeg (pos n +ℤ z))
 nonneg-add n (pos a) h = tt
 nonneg-add n (negsuc a) h = sub-cases n (suc a) (λ (z : ℤ). T (nonNeg z)) (λ l. absurd (not-le-of-lt l h)) (λ l. tt)
-
-pub nonneg-sub : (n : ℕ) (z : ℤ) → natAbs z ≤ n → T (nonNeg (pos n -ℤ z))
-nonneg-sub n z h = nonneg-add n (negℤ z) (rw (abs-neg z) h)
 
 -- a shift to the right brings a number no further from 0
 pub abs-shr : (z : ℤ) (m : ℕ) → natAbs (shrZ z m) ≤ natAbs z

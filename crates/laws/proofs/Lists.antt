@@ -1,13 +1,13 @@
 -- Lists: a run of elements put at a place (`sets` of lib.Seq), and a list made by a rule (`tab`). Assumes nothing.
 use mathlib.Core.Path.{_≡_, refl, sym, _∙_, ap, ap₂}
-use mathlib.Core.List.{List, [], _∷_, _++_}
-use Prim.Native.Nat.{ℕ, zero, suc, _+_, _-_, _≤_, _<_, suc-le-suc, zero-le}
+use mathlib.Core.List.{List, [], _∷_}
+use Prim.Native.Nat.{ℕ, zero, suc, _+_, _≤_, _<_, suc-le-suc, zero-le}
 use native.Mathlib.Nat.{not-suc-le-zero, le-of-suc-le-suc, add-zero, zero-add}
 use native.Mathlib.Numerals.{add-one}
 use native.Mathlib.Omega.{arith}
-use lib.ListN.{length, getD, set, take, drop}
+use lib.ListN.{length, getD, set}
 use Rattle.definition.specs.Rows.{tab}
-use lib.Seq.{getD-set-same, getD-set-other, set-getD, sets, sets-eq, ext-getD, length-sets, lt-length-set}
+use lib.Seq.{getD-set-same, getD-set-other, set-getD, sets, ext-getD, length-sets, lt-length-set}
 
 pub sets-before : (vs l : List ℕ) (a i : ℕ) → i < a → getD (sets l a vs) i 0 ≡ getD l i 0
 sets-before [] l a i h = refl
@@ -85,9 +85,3 @@ sets-all l f =
     (λ i h.
     let hi : i < length l = rw (length-sets l 0 (tab (length l) f)) at h in
     rw (← zero-add i) (sets-in (tab (length l) f) l 0 i (rw (length-tab (length l) f) hi) (rw (zero-add i) hi) ∙ rw (zero-add i)))
-
--- a part that was lent to be written, back in its place
-pub sets-part : (l : List ℕ) (a b : ℕ) (f : ℕ → ℕ) → a ≤ b → b ≤ length l → take a l ++ tab (b - a) f ++ drop b l ≡ sets l a (tab (b - a) f)
-sets-part l a b f h g =
-    let e : a + length (tab (b - a) f) ≡ b = omega (arith, length-tab (b - a) f) in
-    sym (sets-eq (tab (b - a) f) l a (omega arith) ∙ rw e)

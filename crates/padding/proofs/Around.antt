@@ -57,6 +57,14 @@ three-runs l a b c n m k p q r f hb hc hp hq hr =
     rw (tab-cong n p f hp, tab-cong m q (λ i. f (n + i)) hq, tab-cong k r (λ i. f (n + m + i)) hr, hb, hc, sets-run m n l a f)
     (sets-run k (n + m) l a f)
 
+-- a row and what follows it, copied at once
+pub row-on : (dst src : List ℕ) (o srcO w e : ℕ) (right : Bool) → right ≡ true →
+    sets dst o (tab (w + e) (λ j. getD src (srcO + j) 0)) ≡
+    sets (sets dst o (tab w (λ j. getD src (srcO + j) 0))) (o + w) (tab e (λ j. cond right (getD src (srcO + w + j) 0) (getD src (srcO + w - 1) 0)))
+row-on dst src o srcO w e right h =
+    sym (rw (h, tab-cong e (λ j. getD src (srcO + w + j) 0) (λ j. getD src (srcO + (w + j)) 0) (λ j _. same-byte src (srcO + w + j) (srcO + (w + j)) (omega arith)))
+    (sets-run e w dst o (λ j. getD src (srcO + j) 0)))
+
 module _ (src left : List ℕ) (o srcO leftO w e : ℕ) (some : 1 ≤ w) (front : e ≤ o) where
   abbrev column : Bool → Bool → ℕ → ℕ
   column L R j = padded L R w (w - 1) (after left leftO (rowAt src (pos srcO))) (pos j -ℤ pos e)

@@ -97,6 +97,20 @@ fn backup_status(
     0
 }
 
+// A row and e bytes behind it: what follows it in src is copied with it, else its last byte repeats.
+fn row_into(dst: &mut [u8], o: usize, src: &[u8], src_o: usize, w: usize, e: usize, right: bool)
+    requires { ⌜ (1 ≤ w) × (o + w + e ≤ length (now dst)) × («src_o» + w + beside right e ≤ length (now src)) ⌝ }
+    ensures { λ _. ⌜ now (dst .exit) ≡ sets (sets (now (dst .entry)) o (tab w (λ j. getD (now (src .entry)) («src_o» + j) 0))) (o + w) (tab e (λ j. cond right (getD (now (src .entry)) («src_o» + w + j) 0) (getD (now (src .entry)) («src_o» + w - 1) 0))) ⌝ }
+{
+    if right {
+        copy_into(dst, o, src, src_o, w + e);
+        return;
+    }
+    copy_into(dst, o, src, src_o, w);
+    let end = src_o + w;
+    fill_into(dst, o + w, src[end - 1], e);
+}
+
 // The e bytes before the row, the row, and e behind it.
 fn backup_into(
     dst: &mut [u8],
@@ -115,17 +129,7 @@ fn backup_into(
     let has = has_left(edges);
     let from = left_off - beside_of(has, edge_len);
     beside_into(dst, o - edge_len, left, from, src[src_o], edge_len, has);
-    copy_into(dst, o, src, src_o, w);
-    let end = src_o + w;
-    beside_into(
-        dst,
-        o + w,
-        src,
-        end,
-        src[end - 1],
-        edge_len,
-        has_right(edges),
-    );
+    row_into(dst, o, src, src_o, w, edge_len, has_right(edges));
 }
 
 // A row of the unit: its left samples come from the list of them, those that end at left_off.
@@ -305,6 +309,17 @@ fn beside_of(bit: bool, e: usize) -> usize
     0
 }
 
+// Columns that are left over where luma is sampled by ss_hor + 1: a division by a number that is not known would cost more than the row.
+fn left_over(w: usize, ss_hor: usize) -> usize
+    requires { ⌜ «ss_hor» ≤ 1 ⌝ }
+    ensures { λ r. ⌜ r ≡ w % («ss_hor» + 1) ⌝ }
+{
+    if ss_hor == 0 {
+        return 0;
+    }
+    w % 2
+}
+
 fn luma_status(
     dst: usize,
     o: usize,
@@ -337,7 +352,7 @@ fn luma_status(
     if !bounds::room(o, w, 4, dst) {
         return 5;
     }
-    if w % (ss_hor + 1) != 0 {
+    if left_over(w, ss_hor) != 0 {
         return 5;
     }
     let lower = lower_at(ss_ver, cfl_ds_flt, src_stride);

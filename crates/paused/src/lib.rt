@@ -5,7 +5,8 @@ ghost use mathlib.Core.Bool.{cond};
 ghost use Prim.Native.Nat.{_<_};
 ghost use lib.Dec.{eqb};
 ghost use lib.ListN.{length, set};
-ghost use Rattle.units.specs.Luma.{lumaLent, numbersY};
+ghost use Rattle.units.specs.Lent.{lumaLent};
+ghost use Rattle.units.specs.Openings.{numbersY};
 ghost use Rattle.paused.specs.Paused.{Whole};
 
 pub struct Paused {

@@ -383,10 +383,13 @@ fn all_below(xs: &[u8], n: usize) -> bool
 pub fn bad_map(op: usize, map: &[u8], subclass: &[u8], filters: usize) -> bool
     ensures { λ r. ⌜ r ≡ badMapLists (operationOf op) (now (map .entry)) (now (subclass .entry)) filters ⌝ }
 {
+    if map.len() != 4096 {
+        return true;
+    }
     let sets = filters / set_size(op);
     let maps = all_below(map, subclass.len());
     let subs = all_below(subclass, sets);
-    either(either(map.len() != 4096, !maps), !subs)
+    either(!maps, !subs)
 }
 
 fn index_limit(op: usize) -> usize

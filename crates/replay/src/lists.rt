@@ -1,5 +1,5 @@
 // Which unit number k is, and the lists that it is lent: parts of the pool, no byte longer than it needs.
-ghost use Prim.Native.Nat.{_<_, _≤_};
+ghost use Prim.Native.Nat.{_≤_};
 use crate::numbers::below;
 
 pub struct Unit {

@@ -1,8 +1,8 @@
 -- The status of an advance, whatever the kind of unit: what decides it, and what a status of 0 says of the state and of what is lent. Assumes nothing.
-use mathlib.Core.Path.{_≡_, refl}
+use mathlib.Core.Path.{_≡_}
 use mathlib.Core.Bool.{Bool, true, false, not, _||_}
 use mathlib.Core.List.{List}
-use Prim.Native.Nat.{ℕ, zero, suc, _≤_, _<_}
+use Prim.Native.Nat.{ℕ, _≤_, _<_}
 use native.Mathlib.Decide.{decLt}
 use native.Mathlib.Omega.{arith}
 use lib.Dec.{ltb, leb, eqb}
@@ -18,18 +18,11 @@ use Rattle.refusals.specs.Table.{classed}
 use Rattle.refusals.proofs.Chosen.{unless-classed}
 use Rattle.units.specs.declared.State.{State}
 use Rattle.units.specs.Windows.{RowsLie}
+use Rattle.units.proofs.OfKind.{number-of}
 use Rattle.units.specs.Operations.{numberOf, statusOf, statusBy, badState}
 use Rattle.units.specs.Advances.{callOf, Admitted}
 
 -- WHAT DECIDES: the shape, the kept classes, or the table
-number-of : (op : ℕ) → 1 ≤ op → op ≤ 4 → numberOf (operationOf op) ≡ op
-number-of zero a b = absurd (omega arith)
-number-of (suc zero) a b = refl
-number-of (suc (suc zero)) a b = refl
-number-of (suc (suc (suc zero))) a b = refl
-number-of (suc (suc (suc (suc zero)))) a b = refl
-number-of (suc (suc (suc (suc (suc n))))) a b = absurd (omega arith)
-
 module _ (op : ℕ) (low : 1 ≤ op) (high : op ≤ 4) (s : State) (z : Sizes) where
   abbrev shape : Bool
   shape = badShape (operationOf op) (not (eqb (s .op) op)) (s .done) (s .numbers .h) (s .indices) (s .next)

@@ -1,30 +1,29 @@
--- The class of a block: its index is in the map, the call for it is not refused, and a class is below what all subclasses are below. Then the rows of a classed unit. Assumes nothing.
-use mathlib.Core.Path.{_≡_, refl, _∙_, ap}
-use mathlib.Core.Bool.{Bool, true, false, cond}
+-- The class of a block: its index is in the map, the call for it is not refused, and a class is below what all subclasses are below. Assumes nothing.
+use mathlib.Core.Path.{_≡_, refl, _∙_}
+use mathlib.Core.Bool.{true}
 use mathlib.Core.List.{List}
-use Prim.Native.Nat.{ℕ, zero, suc, _+_, _*_, _/_, _%_, _≤_, _<_}
+use Prim.Native.Nat.{ℕ, zero, suc, _+_, _/_, _≤_, _<_}
 use native.Mathlib.Nat.{zero-add}
-use native.Mathlib.Decide.{decLt, ℕ-discrete}
+use native.Mathlib.Decide.{decLt}
 use native.Mathlib.Omega.{arith}
 use lib.Dec.{ltb, leb}
 use lib.IntN.{ℤ}
-use lib.ListN.{length, getD, set, replicate}
-use lib.Seq.{sets, getD-set-other}
-use borrow.Author.Tests.{ltb-true, le-ltb, le-leb, lt-leb, eq-eqb, ne-eqb}
-use Rattle.definition.specs.Rows.{tab, rowBytes}
+use lib.ListN.{length, getD, replicate}
+use lib.Seq.{sets}
+use borrow.Author.Tests.{ltb-true, le-ltb, le-leb, lt-leb}
+use Rattle.definition.specs.Rows.{tab}
 use Rattle.definition.specs.ClassIndex.{bin, term, featureBin, indexOf, classIndex}
 use Rattle.definition.specs.Refusals.{every}
-use Rattle.definition.specs.Units.{Operation, border, Given, Lent}
+use Rattle.definition.specs.Units.{Given, Lent}
 use Rattle.features.specs.Features.{rowsStatus, rowStatus, blockFlat, featureRow, served}
 use Rattle.class_index.specs.Answers.{placeStatus}
 use Rattle.definition.specs.Rows.{orZero}
 use Rattle.laws.proofs.Lists.{sets-in, sets-behind, length-tab, getD-tab}
 use Rattle.laws.proofs.Passes.{pass-all}
-use Rattle.model.specs.Rows.{padRow, own}
-use Rattle.history.specs.Ring.{Ring, fetch, fetch-next-low, set-low-at}
-use Rattle.units.specs.Operations.{begins, withTenth, classAt}
-use Rattle.units.specs.Windows.{ring, Fetched}
-use Rattle.units.specs.Classed.{classLent, newest, TookClassed}
+use Rattle.history.specs.Ring.{Ring}
+use Rattle.units.specs.Operations.{classAt}
+use Rattle.units.specs.Windows.{ring}
+use Rattle.units.specs.Lent.{classLent}
 use Rattle.refusals.proofs.Every.{every-at}
 
 pub bin-low : (v : ℤ) → bin v ≤ 7
@@ -93,60 +92,13 @@ unfolding classAt
 class-low g l r y bx n size maps subs =
     entry-low (l .subclass) n _ (entry-low (l .map) (length (l .subclass)) _ (rw size (index-low _ _ _ _ _)) maps) subs
 
--- .. and so is each of those kept, where some are worked out anew
-pub classes-low : (classes : List ℕ) (k m n : ℕ) (f : ℕ → ℕ) → m ≤ length classes → ((i : ℕ) → i < k → f i < n) → ((i : ℕ) → i < m → getD classes i 0 < n) →
-    (i : ℕ) → i < m → getD (sets classes 0 (tab k f)) i 0 < n
-classes-low classes k m n f h new old i l =
+-- what holds of each class that is worked out, and of each that is kept, holds of those of a row
+pub classes-are : (P : ℕ → Type 0) (classes : List ℕ) (k m : ℕ) (f : ℕ → ℕ) → m ≤ length classes → ((i : ℕ) → i < k → P (f i)) → ((i : ℕ) → i < m → P (getD classes i 0)) →
+    (i : ℕ) → i < m → P (getD (sets classes 0 (tab k f)) i 0)
+classes-are P classes k m f h new old i l =
     elim (decLt i k) [
       | yes a ↦
           let e : getD (sets classes 0 (tab k f)) (0 + i) 0 ≡ getD (tab k f) i 0 = sets-in (tab k f) classes 0 i (rw (length-tab k f) a) (omega arith) in
           rw (rw (zero-add i) at e, getD-tab k f i a) (new i a)
       | no b ↦ rw (sets-behind (tab k f) classes 0 i (rw (length-tab k f) (omega arith))) (old i l)
     ]
-
--- THE ROWS OF A CLASSED UNIT: within a block row the newest alone, at its start the tenth too
-module _ (op : Operation) (g : Given) (l : Lent) (p : List ℕ) (done : ℕ) {old : Ring} where
-  newest-is : {new : Ring} → border op ≡ 4 → Fetched op g l p done old new → new ≡ newest op g l p done old
-  newest-is e f = f .is ∙ ap (λ (m : ℕ). fetch rowBytes m (own op g (done + m)) (padRow op g l p (done + m)) old) (λ i. e i + e i)
-
-  pub took-plain : {new : Ring} → border op ≡ 4 → Fetched op g l p done old new → (done % 4 ≡ 0 → ⊥) → TookClassed op g l p done old new
-  took-plain e f h = record { is = rw (ne-eqb (done % 4) 0 h) (newest-is e f) }
-
-  pub took-tenth : {rows idx row rows′ : List ℕ} {next : ℕ} → border op ≡ 4 → Fetched op g l p done old (ring rows idx next) → done % 4 ≡ 0 →
-      row ≡ padRow op g l p (done + 9) → rows′ ≡ sets rows (9 * 76) row → TookClassed op g l p done old (ring rows′ (set idx 9 9) next)
-  took-tenth e f h t s =
-      record { is = rw (eq-eqb (done % 4) 0 h, s, t) (ap (withTenth (padRow op g l p (done + 9))) (newest-is e f)) }
-
--- no index gets over 9, and no next slot over 8
-pub put-low : (l : List ℕ) (i v n b : ℕ) → v ≤ b → ((j : ℕ) → j < n → getD l j 0 ≤ b) → (j : ℕ) → j < n → getD (set l i v) j 0 ≤ b
-put-low l i v n b h a j k =
-    elim (ℕ-discrete j i) [
-      | yes e ↦ rw e (set-low-at l i v b h)
-      | no ne ↦ rw (getD-set-other l i j v 0 ne) (a j k)
-    ]
-
-abbrev pub Low : Ring → Type 0
-Low r = (j : ℕ) → j < 10 → getD (r .idx) j 0 ≤ 9
-
-fetch-low : (b : Bool) (row : List ℕ) (old : Ring) → old .next ≤ 8 → Low old → Low (fetch 76 8 b row old)
-fetch-low true row old h a = put-low (old .idx) 8 (old .next) 10 9 (omega arith) a
-fetch-low false row old h a = put-low (old .idx) 8 (getD (old .idx) 7 0) 10 9 (a 7 (omega arith)) a
-
-tenth-low : (b : Bool) (row : List ℕ) (r : Ring) → Low r → Low (cond b (withTenth row r) r)
-tenth-low true row r a = put-low (r .idx) 9 9 10 9 (omega arith) a
-tenth-low false row r a = a
-
-tenth-next : (b : Bool) (row : List ℕ) (r : Ring) → r .next ≤ 8 → cond b (withTenth row r) r .next ≤ 8
-tenth-next true row r h = h
-tenth-next false row r h = h
-
-module _ {op : Operation} {g : Given} {l : Lent} {p : List ℕ} {done : ℕ} {old new : Ring} (t : TookClassed op g l p done old new) (h : old .next ≤ 8) where
-  pub took-low : Low old → Low new
-  took-low a =
-      rw (t .is)
-      (tenth-low (begins done) (padRow op g l p (done + 9)) (newest op g l p done old) (fetch-low (own op g (done + 8)) (padRow op g l p (done + 8)) old h a))
-
-  pub took-next : new .next ≤ 8
-  took-next =
-      rw (t .is)
-      (tenth-next (begins done) (padRow op g l p (done + 9)) (newest op g l p done old) (fetch-next-low rowBytes 8 (own op g (done + 8)) (padRow op g l p (done + 8)) old h))

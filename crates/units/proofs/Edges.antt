@@ -1,7 +1,7 @@
 -- The rows above and below a unit by the bits of its edges. Assumes nothing.
 use mathlib.Core.Path.{_≡_, refl, sym, _∙_}
 use mathlib.Core.Bool.{Bool, true, false, cond, _||_}
-use Prim.Native.Nat.{ℕ, zero, suc, _+_, _-_, _≤_, _<_, min}
+use Prim.Native.Nat.{ℕ, suc, _+_, _-_, _≤_, _<_, min}
 use native.Mathlib.Omega.{arith}
 use Rattle.definition.specs.Padding.{hasTop, hasBottom, topIntegrated, bottomIntegrated}
 use Rattle.definition.specs.Units.{Operation, luma, user, pretrained, chroma, border, savedAbove}

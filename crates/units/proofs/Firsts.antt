@@ -1,68 +1,19 @@
--- The first block of which a test holds (`firstOf`): where it lies, and what the blocks before it are. Then the stretches of a mask. Assumes nothing.
-use mathlib.Core.Path.{_≡_, refl, _∙_}
-use mathlib.Core.Bool.{Bool, true, false, not, cond, _||_}
+-- The stretches of one class of a mask, as `blocks::class_stretch` finds them. Assumes nothing.
+use mathlib.Core.Path.{_≡_, _∙_}
+use mathlib.Core.Bool.{Bool, true, false, not, _||_}
 use mathlib.Core.List.{List}
-use Prim.Native.Nat.{ℕ, zero, suc, _+_, _-_, _≤_, _<_}
-use native.Mathlib.Nat.{le-refl}
+use Prim.Native.Nat.{ℕ, _+_, _-_, _≤_, _<_}
 use native.Mathlib.Decide.{ℕ-discrete}
 use native.Mathlib.Omega.{arith}
 use lib.Dec.{eqb}
 use lib.ListN.{getD}
 use borrow.Author.Tests.{eqb-true, not-true, not-false, lt-ltb}
 use Rattle.laws.proofs.Passes.{not-both}
-use Rattle.definition.specs.Blocks.{masked, firstOf, stretchEnd, stretchStart}
+use Rattle.definition.specs.Blocks.{masked, firstOf, stretchStart}
 use Rattle.blocks.specs.Answers.{blockStatus, endOf}
 use Rattle.definition.specs.Rows.{orZero}
+use Rattle.blocks.proofs.First.{first-low, first-most, first-fails, first-holds}
 use Rattle.blocks.proofs.Told.{block-in}
-
-module _ (test : ℕ → Bool) where
-  pub first-low : (n a : ℕ) → a ≤ firstOf test a n
-  unfolding firstOf
-  first-low zero a = le-refl a
-  first-low (suc n) a = go (test a) (first-low n (suc a))
-    where
-      go : (t : Bool) → suc a ≤ firstOf test (suc a) n → a ≤ cond t a (firstOf test (suc a) n)
-      go true h = le-refl a
-      go false h = omega arith
-
-  pub first-most : (n a : ℕ) → firstOf test a n ≤ a + n
-  unfolding firstOf
-  first-most zero a = omega arith
-  first-most (suc n) a = go (test a) (first-most n (suc a))
-    where
-      go : (t : Bool) → firstOf test (suc a) n ≤ suc a + n → cond t a (firstOf test (suc a) n) ≤ a + suc n
-      go true h = omega arith
-      go false h = omega arith
-
-  -- the blocks before it fail the test
-  pub first-fails : (n a k : ℕ) → a ≤ k → k < firstOf test a n → test k ≡ false
-  unfolding firstOf
-  first-fails zero a k l h = absurd (omega arith)
-  first-fails (suc n) a k l h = go (test a) refl (λ i g. first-fails n (suc a) k i g) h
-    where
-      go : (t : Bool) → test a ≡ t → (suc a ≤ k → k < firstOf test (suc a) n → test k ≡ false) → k < cond t a (firstOf test (suc a) n) → test k ≡ false
-      go true e r g = absurd (omega arith)
-      go false e r g =
-          elim (ℕ-discrete k a) [
-            | yes q ↦ rw q e
-            | no ne ↦ r (omega arith) g
-          ]
-
-  -- where it is one of the n, the test holds there
-  pub first-holds : (n a : ℕ) → firstOf test a n < a + n → test (firstOf test a n) ≡ true
-  unfolding firstOf
-  first-holds zero a h = absurd (omega arith)
-  first-holds (suc n) a h = go (test a) refl (λ g. first-holds n (suc a) g) h
-    where
-      go : (t : Bool) → test a ≡ t → (firstOf test (suc a) n < suc a + n → test (firstOf test (suc a) n) ≡ true) →
-          cond t a (firstOf test (suc a) n) < a + suc n → test (cond t a (firstOf test (suc a) n)) ≡ true
-      go true e r g = e
-      go false e r g = r (omega arith)
-
-  pub first-past : (n a : ℕ) → 0 < n → test a ≡ false → a < firstOf test a n
-  unfolding firstOf
-  first-past zero a h e = absurd (omega arith)
-  first-past (suc n) a h e = rw e (first-low n (suc a))
 
 -- the blocks from a to b are masked; none of them is
 abbrev pub Kept : ℕ → ℕ → ℕ → Type 0
@@ -70,26 +21,6 @@ Kept mask a b = (k : ℕ) → a ≤ k → k < b → masked mask k ≡ true
 
 abbrev pub Open : ℕ → ℕ → ℕ → Type 0
 Open mask a b = (k : ℕ) → a ≤ k → k < b → masked mask k ≡ false
-
--- one masked block
-pub one-kept : (mask bx : ℕ) → masked mask bx ≡ true → Kept mask bx (bx + 1)
-one-kept mask bx e k l h = let q : k ≡ bx = omega arith in rw q e
-
--- the stretch that starts at an unmasked block, as `blocks::stretch_end` answers
-pub record Stretch (mask bx bw e : ℕ) : Type 0 where
-  pub some : bx < e
-  pub low : e ≤ bw
-  pub clear : Open mask bx e
-
-pub stretch : (mask bx bw e : ℕ) → bw ≤ 16 → bx < bw → masked mask bx ≡ false → e ≡ orZero (blockStatus bx bw) (stretchEnd mask bx bw) → Stretch mask bx bw e
-stretch mask bx bw e h l o q =
-    let z : blockStatus bx bw ≡ 0 = block-in bx bw h (omega arith) in
-    let d : e ≡ firstOf (masked mask) bx (bw - bx) = q ∙ rw z in
-    rw d (record {
-      some = first-past (masked mask) (bw - bx) bx (omega arith) o;
-      low = omega (arith, first-most (masked mask) (bw - bx) bx);
-      clear = first-fails (masked mask) (bw - bx) bx;
-    })
 
 -- the next stretch of one class from bx on, as `blocks::class_stretch` answers
 pub record ClassStretch (mask : ℕ) (classes : List ℕ) (bx bw start end : ℕ) : Type 0 where

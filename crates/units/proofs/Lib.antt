@@ -9,12 +9,12 @@ pub mod Copies
 pub mod Pieces
 pub mod Admissions
 pub mod Openings
-pub mod LumaRow
+pub mod TwoRings
 pub mod Advances
 pub mod Classes
 pub mod TwoLists
 pub mod LumaSources
-pub mod ClassedRow
-pub mod ChromaLie
-pub mod ChromaRow
+pub mod Fits
+pub mod OfKind
+pub mod OneRow
 pub mod ChromaOpening

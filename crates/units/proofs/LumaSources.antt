@@ -21,7 +21,7 @@ use Rattle.padding.specs.Padded.{lumaStatus, lumaRow, lowerAt}
 use Rattle.model.specs.Rows.{firstRow}
 use Rattle.model.specs.LumaRows.{lumaPadRow}
 use Rattle.model.specs.Fine.{Inside}
-use Rattle.units.specs.Chroma.{LumaLie, lumaCount, lumaTopCount}
+use Rattle.units.specs.OneRow.{LumaLie, lumaCount, lumaTopCount}
 use Rattle.units.specs.LumaFrom.{lumaWidth, LumaFits, lumaFrom}
 use Rattle.units.proofs.Edges.{above-saved}
 use Rattle.units.proofs.Sources.{served}

@@ -1,44 +1,72 @@
--- Samples under two filters whose numbers are the same where they are used, and a sample of a stretch under its block's set. Assumes nothing.
-use mathlib.Core.Path.{_≡_, ap, ap₂}
+-- A run under numbers that are those of the class's set: what it writes. Assumes nothing.
+use mathlib.Core.Path.{_≡_, refl, sym, _∙_, ap}
 use mathlib.Core.List.{List}
-use Prim.Native.Nat.{ℕ, _+_, _*_, _/_, _≤_, _<_}
-use native.Mathlib.Omega.{arith}
-use lib.IntN.{ℤ, pos, _+ℤ_, _-ℤ_, _*ℤ_}
+use Prim.Native.Nat.{ℕ, _+_, _*_, _-_, _≤_, _<_}
+use native.Mathlib.Nat.{zero-add}
+use lib.IntN.{ℤ, pos}
 use lib.ListN.{getD}
-use Rattle.definition.specs.Rows.{lumaFlat}
-use Rattle.definition.specs.Sample.{limit8, rounded, centre, pairOf, nsTap, pcTap, nsConfigY, pcConfig}
-use Rattle.definition.specs.Units.{user, pretrained, setOf}
+use lib.Seq.{sets}
+use Rattle.definition.specs.Rows.{tab, lumaFlat, chromaFlat, chromaLumaFlat}
+use Rattle.definition.specs.Sample.{limit8}
+use Rattle.definition.specs.Units.{Operation, luma, user, pretrained, chroma}
 use Rattle.filter.specs.Runs.{coefficients}
-use Rattle.model.specs.Views.{sumZ-cong}
-use Rattle.units.specs.Unmasked.{lumaOpen, pretrainedOpen, userOpen, classedOpen}
-use Rattle.units.proofs.Firsts.{ClassStretch}
+use Rattle.laws.proofs.Lists.{tab-cong}
+use Rattle.model.specs.Views.{luma-agree, pretrained-agree, chroma-agree}
+use Rattle.edges.specs.Operations.{operationOf}
+use Rattle.units.specs.Lent.{filtersOf}
+use Rattle.units.specs.Unmasked.{lumaOpen, pretrainedOpen, chromaOpen, openOf, setStart, setFor}
+use Rattle.units.proofs.OfKind.{luma-or-user, at-kind}
 
-module _ (rows indices : List ℕ) (c d : ℕ → ℤ) (x : ℕ) where
-  luma-alike : ((k : ℕ) → k < 16 → c k ≡ d k) → lumaOpen rows indices c x ≡ lumaOpen rows indices d x
-  unfolding lumaOpen
-  luma-alike e =
-      let s : ℤ → ℤ → ℕ = lumaFlat rows indices (6 + x) in
-      ap (λ (z : ℤ). rounded limit8 (pos (128 * centre s) +ℤ z))
-      (sumZ-cong 16 (nsTap s c nsConfigY) (nsTap s d nsConfigY) (λ k h. ap (λ (z : ℤ). (pos (pairOf s nsConfigY k) -ℤ pos (2 * centre s)) *ℤ z) (e k h)))
+-- the numbers of a set, from where it begins
+set-at : (op : Operation) (filters : List ℤ) (cls k : ℕ) → getD filters (setStart op cls + k) (pos 0) ≡ setFor op filters cls k
+set-at luma filters cls k = ap (λ (i : ℕ). getD filters i (pos 0)) (zero-add k)
+set-at user filters cls k = refl
+set-at pretrained filters cls k = refl
+set-at chroma filters cls k = ap (λ (i : ℕ). getD filters i (pos 0)) (zero-add k)
 
-  pretrained-alike : ((k : ℕ) → k < 13 → c k ≡ d k) → pretrainedOpen rows indices c x ≡ pretrainedOpen rows indices d x
-  unfolding pretrainedOpen
-  pretrained-alike e =
-      let s : ℤ → ℤ → ℕ = lumaFlat rows indices (6 + x) in
-      ap₂ (λ (y z : ℤ). rounded limit8 (pos (centre s) *ℤ y +ℤ z)) (e 12 (omega arith))
-      (sumZ-cong 12 (pcTap s c) (pcTap s d) (λ k h. ap (λ (z : ℤ). pos (pairOf s pcConfig k) *ℤ z) (e k (omega arith))))
+-- numbers to a set that a sample uses
+abbrev pub usedOf : Operation → ℕ
+usedOf luma = 16
+usedOf user = 16
+usedOf pretrained = 13
+usedOf chroma = 18
 
--- the samples of a stretch of one class, under the set of its first block
-module _ {mask : ℕ} {classes : List ℕ} {bx bw start end : ℕ} (s : ClassStretch mask classes bx bw start end) (rows indices : List ℕ) (filters set : List ℤ) (x : ℕ) (a : start * 4 ≤ x) (b : x < end * 4) where
-  class-of : getD classes (x / 4) 0 ≡ getD classes start 0
-  class-of = s .alike (x / 4) (omega arith) (omega arith)
+module _ (rows indices : List ℕ) (c d : ℕ → ℤ) (step x : ℕ) where
+  alike : (op : Operation) → ((k : ℕ) → k < usedOf op → c k ≡ d k) → openOf op rows indices step c x ≡ openOf op rows indices step d x
+  unfolding lumaOpen pretrainedOpen chromaOpen
+  alike luma e = luma-agree limit8 (lumaFlat rows indices (6 + x)) (lumaFlat rows indices (6 + x)) c d (λ dy dx ny nx. refl) e
+  alike user e = luma-agree limit8 (lumaFlat rows indices (6 + x)) (lumaFlat rows indices (6 + x)) c d (λ dy dx ny nx. refl) e
+  alike pretrained e = pretrained-agree limit8 (lumaFlat rows indices (6 + x)) (lumaFlat rows indices (6 + x)) c d (λ dy dx ny nx. refl) e
+  alike chroma e =
+      chroma-agree limit8 step (chromaFlat rows indices (6 + x)) (chromaFlat rows indices (6 + x)) (chromaLumaFlat rows indices (6 + x * step)) (chromaLumaFlat rows indices (6 + x * step)) c d
+      (λ dy dx ny nx. refl) (λ dy dx ny nx. refl) refl e
 
-  pub user-sample : ((k : ℕ) → k < 16 → getD set k (pos 0) ≡ setOf user filters (getD classes start 0) k) →
-      lumaOpen rows indices (coefficients set) x ≡ userOpen rows indices filters classes x
-  unfolding userOpen
-  user-sample e = luma-alike rows indices (coefficients set) (setOf user filters (getD classes (x / 4) 0)) x (λ k h. rw class-of (e k h))
+-- what a run of samples x0 .. x1 - 1 writes, by the set that it was given
+module _ (rows indices p : List ℕ) (filters wide set : List ℤ) (step at x0 x1 cls from : ℕ) where
+  abbrev Written : Operation → (ℕ → ℤ) → List ℕ → Type 0
+  Written op c q = q ≡ sets p (at + x0) (tab (x1 - x0) (λ i. openOf op rows indices step c (x0 + i)))
 
-  pub pretrained-sample : ((k : ℕ) → k < 13 → getD set k (pos 0) ≡ setOf pretrained filters (getD classes start 0) k) →
-      pretrainedOpen rows indices (coefficients set) x ≡ classedOpen rows indices filters classes x
-  unfolding classedOpen
-  pretrained-sample e = pretrained-alike rows indices (coefficients set) (setOf pretrained filters (getD classes (x / 4) 0)) x (λ k h. rw class-of (e k h))
+  abbrev Given : Operation → Type 0
+  Given op = (k : ℕ) → k < usedOf op → getD set k (pos 0) ≡ getD (filtersOf op filters wide) (from + k) (pos 0)
+
+  run-is : (op : Operation) {q : List ℕ} → from ≡ setStart op cls → Given op → Written op (coefficients set) q → Written op (setFor op (filtersOf op filters wide) cls) q
+  run-is op f e w =
+      w ∙
+      (λ i.
+      sets p (at + x0)
+      (tab-cong (x1 - x0) _ _
+      (λ j h. alike rows indices (coefficients set) (setFor op (filtersOf op filters wide) cls) step (x0 + j) op (λ k l. e k l ∙ rw f (set-at op (filtersOf op filters wide) cls k))) i))
+
+  -- by the number of the kind
+  abbrev Result : Operation → List ℕ → Type 0
+  Result op q = Written op (setFor op (filtersOf op filters wide) cls) q
+
+  module _ {q : List ℕ} where
+    pub run-pretrained : (op : ℕ) → op ≡ 3 → from ≡ setStart (operationOf op) cls → Given pretrained → Written pretrained (coefficients set) q → Result (operationOf op) q
+    run-pretrained op e f g w = at-kind (λ o. from ≡ setStart o cls → Result o q) (sym e) (λ z. run-is pretrained z g w) f
+
+    pub run-chroma : (op : ℕ) → op ≡ 4 → from ≡ setStart (operationOf op) cls → Given chroma → Written chroma (coefficients set) q → Result (operationOf op) q
+    run-chroma op e f g w = at-kind (λ o. from ≡ setStart o cls → Result o q) (sym e) (λ z. run-is chroma z g w) f
+
+    pub run-luma : (op : ℕ) → 1 ≤ op → op ≤ 4 → (op ≡ 3 → ⊥) → (op ≡ 4 → ⊥) → from ≡ setStart (operationOf op) cls → Given luma → Written luma (coefficients set) q → Result (operationOf op) q
+    run-luma op a b n m f g w = luma-or-user (λ o. from ≡ setStart o cls → Result o q) (λ z. run-is luma z g w) (λ z. run-is user z g w) op a b n m f

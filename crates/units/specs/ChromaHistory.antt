@@ -2,7 +2,7 @@
 use mathlib.Core.Path.{_≡_, refl, sym, _∙_, ap}
 use mathlib.Core.Bool.{cond}
 use mathlib.Core.List.{List, [], _∷_, _++_}
-use Prim.Native.Nat.{ℕ, zero, suc, _+_, _*_, _-_, _/_, _%_, _≤_, _<_, zero-le}
+use Prim.Native.Nat.{ℕ, zero, suc, _+_, _*_, _/_, _%_, _≤_, _<_, zero-le}
 use native.Mathlib.Nat.{mul-le-mul}
 use native.Mathlib.Omega.{arith}
 use lib.IntN.{ℤ, pos, natAbs, _+ℤ_, _*ℤ_}
@@ -27,8 +27,9 @@ use Rattle.model.specs.Views.{chroma-agree, viewAround, flat-view, pad-view, pl
 use Rattle.refusals.specs.declared.Numbers.{Numbers}
 use Rattle.units.specs.declared.State.{State}
 use Rattle.refusals.specs.Given.{givenOf}
-use Rattle.units.specs.Cells.{chromaCell}
-use Rattle.units.specs.Operations.{units, statusOf, tookOwn, tookLuma, chromaState, chromaPlane}
+use Rattle.units.specs.Cells.{cellOf}
+use Rattle.units.specs.Unmasked.{chromaOpen}
+use Rattle.units.specs.Operations.{units, statusOf, tookOwn, tookLuma, stateOf, planeOf}
 use Rattle.units.specs.Openings.{openState, openStatus, openOwn, openLuma}
 use Rattle.units.specs.Advances.{callOf, passed}
 use Rattle.units.specs.Histories.{frameOf, Histories}
@@ -72,11 +73,11 @@ chromaSeen l step y v old x =
     (chromaSample limit8 (viewAround 2 (v .0) (rowOrigin + x)) (viewAround 2 (v .1) (rowOrigin + x * step)) step (coefficients (l .filters)))
 
 -- over the rings' flat rows it is the cell that the code writes
-cell-seen : (l : Lent) (step y : ℕ) (c m : Ring) (old x : ℕ) → length (c .slots) ≡ 380 → length (c .idx) ≡ 5 → ((j : ℕ) → getD (c .idx) j 0 ≤ 4) → x < 64 → step ≤ 2 →
-    chromaCell (c .slots ++ m .slots) (c .idx ++ m .idx) step (l .filters) (maskAt (l .skip) y) old x ≡
+cell-seen : (l : Lent) (step y : ℕ) (c m : Ring) (classes : List ℕ) (old x : ℕ) → length (c .slots) ≡ 380 → length (c .idx) ≡ 5 → ((j : ℕ) → getD (c .idx) j 0 ≤ 4) → x < 64 → step ≤ 2 →
+    cellOf chroma (c .slots ++ m .slots) (c .idx ++ m .idx) step (l .filters) classes (maskAt (l .skip) y) old x ≡
     chromaSeen l step y (tab 5 (window rowBytes c), tab 5 (window lumaRowBytes m)) old x
-unfolding chromaCell
-cell-seen l step y c m old x rows indices low hx hs =
+unfolding cellOf chromaOpen
+cell-seen l step y c m classes old x rows indices low hx hs =
     ap (cond (masked (maskAt (l .skip) y) (x / side)) old)
     (chroma-agree limit8 step (chromaFlat (c .slots ++ m .slots) (c .idx ++ m .idx) (rowOrigin + x)) (viewAround 2 (tab 5 (window rowBytes c)) (rowOrigin + x))
     (chromaLumaFlat (c .slots ++ m .slots) (c .idx ++ m .idx) (rowOrigin + x * step)) (viewAround 2 (tab 5 (window lumaRowBytes m)) (rowOrigin + x * step))
@@ -244,7 +245,7 @@ module _ (n : Numbers) (l : Lent) (p₀ : List ℕ) (f : openStatus chroma n l p
       (filled-size rowBytes (firstRow chroma G) (padRow chroma G l p₀) (replicate 380 0) (pad-size chroma G l p₀) 4 ∙ length-replicate {A = ℕ} 380 0, refl)
 
   pub shown : Shown units (frameOf chroma n l p₀) mem (λ a. chromaSeen l (step G l)) there
-  unfolding openState chromaState chromaPlane
+  unfolding openState stateOf planeOf
   shown =
       record {
         apart = omega (arith, good .apart);
@@ -267,8 +268,8 @@ module _ (n : Numbers) (l : Lent) (p₀ : List ℕ) (f : openStatus chroma n l p
                   sets p (n .off + k * n .stride)
                   (tab (n .w)
                   (λ x.
-                  chromaCell (own-is k m p at i .slots ++ luma-is k m p at i .slots) (own-is k m p at i .idx ++ luma-is k m p at i .idx) (step G l) (l .filters)
-                  (maskAt (l .skip) k) (getD p (n .off + k * n .stride + x) 0) x));
+                  cellOf chroma (own-is k m p at i .slots ++ luma-is k m p at i .slots) (own-is k m p at i .idx ++ luma-is k m p at i .idx) (step G l) (l .filters)
+                  (replicate 16 0) (maskAt (l .skip) k) (getD p (n .off + k * n .stride + x) 0) x));
             }) ∙
             (λ i.
             record {
@@ -277,7 +278,7 @@ module _ (n : Numbers) (l : Lent) (p₀ : List ℕ) (f : openStatus chroma n l p
                   sets p (n .off + k * n .stride)
                   (tab-cong (n .w) _ _
                   (λ x hx.
-                  cell-seen l (step G l) k (mem .take k p m .0) (mem .take k p m .1) (getD p (n .off + k * n .stride + x) 0) x
+                  cell-seen l (step G l) k (mem .take k p m .0) (mem .take k p m .1) (replicate 16 0) (getD p (n .off + k * n .stride + x) 0) x
                   (sizes k p m at .0) (sizes k p m at .1) (indices-low k p m at) (omega (arith, good .wide .high)) (step-two G l (good .wide .high) (good .pair)))
                   i);
             });

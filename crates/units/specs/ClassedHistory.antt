@@ -30,14 +30,15 @@ use Rattle.model.specs.Fine.{Fine, fine, row-room}
 use Rattle.laws.proofs.Ints.{never}
 use Rattle.model.specs.Opening.{openRing, opens, filled, filled-size, openIndex}
 use Rattle.units.specs.Histories.{frameOf, Histories}
-use Rattle.units.specs.Cells.{userCell, pretrainedCell}
+use Rattle.units.specs.Cells.{cellOf}
+use Rattle.units.specs.Unmasked.{lumaOpen, pretrainedOpen}
 use Rattle.definition.specs.Sample.{limit8, lumaSample, pretrainedSample}
 use Rattle.history.specs.Theorem.{Given as Shown, theorem}
 use Rattle.refusals.specs.declared.Numbers.{Numbers}
 use Rattle.units.specs.declared.State.{State}
 use Rattle.refusals.specs.Given.{givenOf}
 use Rattle.units.specs.Openings.{openRings, openTen, openState, openStatus}
-use Rattle.units.specs.Operations.{numberOf, begins, withTenth, classAt, stepOf, classedState, userPlane, pretrainedPlane, painted, tookClassed, classesNow, took, units, statusOf}
+use Rattle.units.specs.Operations.{numberOf, moved, startOf, begins, withTenth, classAt, stepOf, stateOf, planeOf, tookClassed, classesNow, took, units, statusOf}
 use Rattle.units.specs.Advances.{callOf, passed}
 use Rattle.units.specs.LumaHistory.{slot}
 
@@ -296,7 +297,11 @@ module _ (op : Operation) (four : border op ≡ 4) (ten₀ : (n : Numbers) (l : 
     cond (masked (maskAt (l .skip) y) (x / side)) (getD p (g .off + y * g .stride + x) 0)
     (sample (around op g l p y x) (setOf op (l .filters) (classOf op g l p (x / side) (y / side)))))
     (stepped : (l : Lent) (s : State) (p : List ℕ) → stepOf op l (record { state = s; plane = p }) ≡
-    record { state = classedState op l s p; plane = painted op l s p (cell (tookClassed op l s p .slots) (tookClassed op l s p .idx) (l .filters) (classesNow op l s p) (maskAt (l .skip) (s .done))) })
+    record {
+      state = moved s (s .done + 1) (classesNow op l s p) (shift 8 (tookClassed op l s p));
+      plane = sets p (startOf s)
+          (tab (s .numbers .w) (λ x. cell (tookClassed op l s p .slots) (tookClassed op l s p .idx) (l .filters) (classesNow op l s p) (maskAt (l .skip) (s .done)) (getD p (startOf s + x) 0) x));
+    })
     (size+ : 0 < setSize op)
     (maps : (g : Given) (z : Sizes) → badFilters op g z op ≡ false → z .badMap ≡ false)
     (keeps : (c : List ℕ) (m : ℕ) → badKept op c m ≡ not (firstPass (λ k. ltb k (m / setSize op)) 16 c))
@@ -443,7 +448,7 @@ module _ (op : Operation) (four : border op ≡ 4) (ten₀ : (n : Numbers) (l : 
             ]
 
     pub shown : Shown units (frameOf op n l p₀) mem (λ a. classedSeen l) there
-    unfolding openState classedState
+    unfolding openState
     shown =
         record {
           apart = omega (arith, good .apart);
@@ -497,13 +502,13 @@ maps-pretrained : (g : Given) (z : Sizes) → badFilters pretrained g z pretrain
 maps-pretrained g z e = not-both (not (eqb (z .filters % setSize pretrained) 0)) (z .badMap) e .1
 
 pub user-history : (n : Numbers) (l : Lent) (p₀ : List ℕ) → openStatus user n l p₀ ≡ 0 → Histories user n l p₀
-unfolding finalSample userCell userPlane
+unfolding finalSample cellOf lumaOpen stateOf planeOf
 user-history n l p₀ f =
-    classed-history user refl (λ n l p. refl) (lumaSample limit8) (λ s t c a. luma-agree limit8 s t c c a (λ k h. refl)) userCell
+    classed-history user refl (λ n l p. refl) (lumaSample limit8) (λ s t c a. luma-agree limit8 s t c c a (λ k h. refl)) (λ slots idx. cellOf user slots idx 0)
     (λ slots idx filters classes mask old x. refl) (λ g l p y x. refl) (λ l s p. refl) (omega arith) maps-user (λ c m. refl) (refl, refl) refl n l p₀ f
 
 pub pretrained-history : (n : Numbers) (l : Lent) (p₀ : List ℕ) → openStatus pretrained n l p₀ ≡ 0 → Histories pretrained n l p₀
-unfolding finalSample pretrainedCell pretrainedPlane
+unfolding finalSample cellOf pretrainedOpen stateOf planeOf
 pretrained-history n l p₀ f =
-    classed-history pretrained refl (λ n l p. refl) (pretrainedSample limit8) (λ s t c a. pretrained-agree limit8 s t c c a (λ k h. refl)) pretrainedCell
+    classed-history pretrained refl (λ n l p. refl) (pretrainedSample limit8) (λ s t c a. pretrained-agree limit8 s t c c a (λ k h. refl)) (λ slots idx. cellOf pretrained slots idx 0)
     (λ slots idx filters classes mask old x. refl) (λ g l p y x. refl) (λ l s p. refl) (omega arith) maps-pretrained (λ c m. refl) (refl, refl) refl n l p₀ f

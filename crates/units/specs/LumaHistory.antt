@@ -2,7 +2,7 @@
 use mathlib.Core.Path.{_≡_, refl, sym, ap}
 use mathlib.Core.Bool.{cond}
 use mathlib.Core.List.{List, [], _∷_}
-use Prim.Native.Nat.{ℕ, zero, suc, _+_, _*_, _-_, _/_, _%_, _≤_, _<_, zero-le}
+use Prim.Native.Nat.{ℕ, zero, suc, _+_, _*_, _/_, _%_, _≤_, _<_, zero-le}
 use native.Mathlib.Omega.{arith}
 use lib.IntN.{pos}
 use lib.ListN.{length, getD, replicate, length-replicate}
@@ -10,7 +10,7 @@ use lib.Seq.{sets}
 use Rattle.definition.specs.Rows.{tab, rowBytes, rowOrigin, lumaFlat}
 use Rattle.definition.specs.Blocks.{side, maskAt, masked}
 use Rattle.definition.specs.Sample.{limit8, lumaSample}
-use Rattle.definition.specs.Units.{luma, Lent, finalSample, around, setOf}
+use Rattle.definition.specs.Units.{luma, Lent, step, finalSample, around, setOf}
 use Rattle.definition.specs.Refusals.{sizesOf}
 use Rattle.filter.specs.Runs.{coefficients}
 use Rattle.laws.proofs.Lists.{tab-cong}
@@ -24,8 +24,9 @@ use Rattle.model.specs.Views.{luma-agree, viewAround, flat-view, pad-view, plac
 use Rattle.refusals.specs.declared.Numbers.{Numbers}
 use Rattle.units.specs.declared.State.{State}
 use Rattle.refusals.specs.Given.{givenOf}
-use Rattle.units.specs.Cells.{lumaCell}
-use Rattle.units.specs.Operations.{units, statusOf, took, lumaState, lumaPlane}
+use Rattle.units.specs.Cells.{cellOf}
+use Rattle.units.specs.Unmasked.{lumaOpen}
+use Rattle.units.specs.Operations.{units, statusOf, took, stateOf, planeOf}
 use Rattle.units.specs.Openings.{openState, openStatus}
 use Rattle.units.specs.Advances.{callOf, passed}
 use Rattle.units.specs.Histories.{frameOf, Histories}
@@ -40,10 +41,10 @@ lumaSeen l y rows old x =
     cond (masked (maskAt (l .skip) y) (x / side)) old (lumaSample limit8 (viewAround 4 rows (rowOrigin + x)) (coefficients (l .filters)))
 
 -- over a ring's flat rows it is the cell that the code writes
-cell-seen : (l : Lent) (y : ℕ) (g : Ring) (old x : ℕ) → x < 64 →
-    lumaCell (g .slots) (g .idx) (l .filters) (maskAt (l .skip) y) old x ≡ lumaSeen l y (tab 9 (window rowBytes g)) old x
-unfolding lumaCell lumaSeen
-cell-seen l y g old x h =
+cell-seen : (l : Lent) (step y : ℕ) (g : Ring) (classes : List ℕ) (old x : ℕ) → x < 64 →
+    cellOf luma (g .slots) (g .idx) step (l .filters) classes (maskAt (l .skip) y) old x ≡ lumaSeen l y (tab 9 (window rowBytes g)) old x
+unfolding cellOf lumaOpen lumaSeen
+cell-seen l step y g classes old x h =
     ap (cond (masked (maskAt (l .skip) y) (x / side)) old)
     (luma-agree limit8 (lumaFlat (g .slots) (g .idx) (rowOrigin + x)) (viewAround 4 (tab 9 (window rowBytes g)) (rowOrigin + x)) (coefficients (l .filters)) (coefficients (l .filters))
     (λ dy dx ny nx.
@@ -86,7 +87,7 @@ module _ (n : Numbers) (l : Lent) (p₀ : List ℕ) (f : openStatus luma n l p�
       (λ k m. let z : k ≡ 16 * 0 + k = omega arith in ap (λ (i : ℕ). getD (l .filters) i (pos 0)) z)))
 
   pub luma-shown : Shown units (frameOf luma n l p₀) rows (λ a. lumaSeen l) there
-  unfolding openState openRing lumaState lumaPlane took
+  unfolding openState openRing stateOf planeOf took
   luma-shown =
       record {
         apart = omega (arith, good .apart);
@@ -110,7 +111,7 @@ module _ (n : Numbers) (l : Lent) (p₀ : List ℕ) (f : openStatus luma n l p�
               plane =
                   sets p (n .off + k * n .stride)
                   (tab-cong (n .w) _ _
-                  (λ x hx. cell-seen l k (rows .take k p m) (getD p (n .off + k * n .stride + x) 0) x (omega (arith, good .wide .high)))
+                  (λ x hx. cell-seen l (step (givenOf n) l) k (rows .take k p m) (replicate 16 0) (getD p (n .off + k * n .stride + x) 0) x (omega (arith, good .wide .high)))
                   i);
             };
       }

@@ -1,7 +1,7 @@
 -- Opening a unit of each kind: the state that it hands out.
 use mathlib.Core.Path.{_≡_}
 use mathlib.Core.List.{List, [], _∷_, _++_}
-use Prim.Native.Nat.{ℕ, zero, suc, _+_}
+use Prim.Native.Nat.{ℕ, zero, suc}
 use lib.ListN.{replicate}
 use Rattle.definition.specs.Rows.{lumaRowBytes}
 use Rattle.definition.specs.Units.{Operation, luma, user, pretrained, chroma, Lent}
@@ -45,25 +45,33 @@ openState op n l p =
       rows = openRings op n l p .slots;
     }
 
+-- THE NUMBERS that a chroma unit is opened with
+abbrev pub numbersC : ℕ → ℕ → ℕ → ℕ → ℕ → ℕ → ℕ → ℕ → ℕ → ℕ → ℕ → ℕ → ℕ → ℕ → Numbers
+numbersC w h edges stride lumaStride off topOff bottomOff lumaOff lumaTopOff lumaBottomOff ssHor ssVer kind =
+    record {
+      w = w;
+      h = h;
+      edges = edges;
+      stride = stride;
+      «luma_stride» = lumaStride;
+      off = off;
+      «top_off» = topOff;
+      «bottom_off» = bottomOff;
+      «luma_off» = lumaOff;
+      «luma_top_off» = lumaTopOff;
+      «luma_bottom_off» = lumaBottomOff;
+      «ss_hor» = ssHor;
+      «ss_ver» = ssVer;
+      kind = kind;
+    }
+
+-- .. and one of another kind: what it does not use is 0
+abbrev pub numbersY : ℕ → ℕ → ℕ → ℕ → ℕ → ℕ → ℕ → Numbers
+numbersY w h edges stride off topOff bottomOff = numbersC w h edges stride 0 off topOff bottomOff 0 0 0 0 0 0
+
 -- the state of zeros, of no unit
 abbrev pub noNumbers : Numbers
-noNumbers =
-    record {
-      w = 0;
-      h = 0;
-      edges = 0;
-      stride = 0;
-      «luma_stride» = 0;
-      off = 0;
-      «top_off» = 0;
-      «bottom_off» = 0;
-      «luma_off» = 0;
-      «luma_top_off» = 0;
-      «luma_bottom_off» = 0;
-      «ss_hor» = 0;
-      «ss_ver» = 0;
-      kind = 0;
-    }
+noNumbers = numbersY 0 0 0 0 0 0 0
 
 unfoldable pub noState : State
 noState =

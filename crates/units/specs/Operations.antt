@@ -22,7 +22,7 @@ use Rattle.units.specs.declared.State.{State}
 use Rattle.units.specs.declared.Advanced.{Advanced}
 use Rattle.refusals.specs.Given.{givenOf}
 use Rattle.units.specs.Windows.{ring}
-use Rattle.units.specs.Cells.{lumaCell, userCell, pretrainedCell, chromaCell}
+use Rattle.units.specs.Cells.{cellOf}
 
 -- the number of an operation in a state: 0 is none
 abbrev pub numberOf : Operation → ℕ
@@ -76,7 +76,8 @@ ringOf s = ring (s .rows) (s .indices) (s .next)
 abbrev pub startOf : State → ℕ
 startOf s = s .numbers .off + s .done * s .numbers .stride
 
--- LUMA. The newest row is padded, the row restored, the window moved on.
+-- WHAT A ROW IS RESTORED FROM
+-- the newest row of the window
 module _ (op : Operation) (l : Lent) (s : State) (p : List ℕ) where
   unfoldable pub took : Ring
   took =
@@ -84,21 +85,7 @@ module _ (op : Operation) (l : Lent) (s : State) (p : List ℕ) where
       (padRow op (givenOf (s .numbers)) l p (s .done + (border op + border op)))
       (ringOf s)
 
-  -- the row with cell x by the rule `cell`, over the ring g
-  abbrev pub painted : (ℕ → ℕ → ℕ) → List ℕ
-  painted cell = sets p (startOf s) (tab (s .numbers .w) (λ x. cell (getD p (startOf s + x) 0) x))
-
-unfoldable pub lumaState : Lent → State → List ℕ → State
-lumaState l s p = moved s (s .done + 1) (s .classes) (shift 8 (took luma l s p))
-
-unfoldable pub lumaPlane : Lent → State → List ℕ → List ℕ
-lumaPlane l s p =
-    painted luma l s p (lumaCell (took luma l s p .slots) (took luma l s p .idx) (l .filters) (maskAt (l .skip) (s .done)))
-
-abbrev pub lumaStep : Lent → World State → World State
-lumaStep l x = record { state = lumaState l (x .state) (x .plane); plane = lumaPlane l (x .state) (x .plane) }
-
--- CLASSED. At the start of a block row the row five below is padded into the tenth slot, and the classes of its blocks are worked out; the others stay.
+-- Classed: at the start of a block row the row five below is padded into the tenth slot, and the classes of its blocks are worked out; the others stay.
 abbrev pub begins : ℕ → Bool
 begins k = eqb (k % side) 0
 
@@ -121,20 +108,7 @@ module _ (op : Operation) (l : Lent) (s : State) (p : List ℕ) where
   classesNow =
       cond (begins (s .done)) (sets (s .classes) 0 (tab (s .numbers .w / side) (classAt (givenOf (s .numbers)) l tookClassed (s .done)))) (s .classes)
 
-unfoldable pub classedState : Operation → Lent → State → List ℕ → State
-classedState op l s p = moved s (s .done + 1) (classesNow op l s p) (shift 8 (tookClassed op l s p))
-
-unfoldable pub userPlane : Lent → State → List ℕ → List ℕ
-userPlane l s p =
-    painted user l s p
-    (userCell (tookClassed user l s p .slots) (tookClassed user l s p .idx) (l .filters) (classesNow user l s p) (maskAt (l .skip) (s .done)))
-
-unfoldable pub pretrainedPlane : Lent → State → List ℕ → List ℕ
-pretrainedPlane l s p =
-    painted pretrained l s p
-    (pretrainedCell (tookClassed pretrained l s p .slots) (tookClassed pretrained l s p .idx) (l .filters) (classesNow pretrained l s p) (maskAt (l .skip) (s .done)))
-
--- CHROMA. Five rows of 76 bytes and five indices, then five luma rows of 140 and their indices.
+-- Chroma: five rows of 76 bytes and five indices, then five luma rows of 140 and their indices.
 abbrev pub chromaRing : State → Ring
 chromaRing s = ring (take lumaRowsAt (s .rows)) (take 5 (s .indices)) (s .next)
 
@@ -150,25 +124,43 @@ module _ (l : Lent) (s : State) (p : List ℕ) where
   tookLuma =
       fetch lumaRowBytes 4 (own chroma (givenOf (s .numbers)) (s .done + 4)) (lumaPadRow (givenOf (s .numbers)) l (s .done + 4)) (lumaRing s)
 
-  -- both rings in the state's arrays
-  abbrev pub joined : Ring → Ring → Ring
-  joined c m = ring (c .slots ++ m .slots) (c .idx ++ m .idx) (c .next)
+-- both rings in the state's arrays
+abbrev pub joined : Ring → Ring → Ring
+joined c m = ring (c .slots ++ m .slots) (c .idx ++ m .idx) (c .next)
 
-unfoldable pub chromaState : Lent → State → List ℕ → State
-chromaState l s p = moved s (s .done + 1) (s .classes) (joined l s p (shift 4 (tookOwn l s p)) (shift 4 (tookLuma l s p)))
+-- THE STEP OF ONE ROW, by the kind of unit: the rows and the classes that it is restored from, and the window moved on
+abbrev pub tookOf : Operation → Lent → State → List ℕ → Ring
+tookOf luma l s p = took luma l s p
+tookOf user l s p = tookClassed user l s p
+tookOf pretrained l s p = tookClassed pretrained l s p
+tookOf chroma l s p = joined (tookOwn l s p) (tookLuma l s p)
 
-unfoldable pub chromaPlane : Lent → State → List ℕ → List ℕ
-chromaPlane l s p =
-    painted chroma l s p
-    (chromaCell (joined l s p (tookOwn l s p) (tookLuma l s p) .slots) (joined l s p (tookOwn l s p) (tookLuma l s p) .idx)
-    (step (givenOf (s .numbers)) l) (l .filters) (maskAt (l .skip) (s .done)))
+abbrev pub classesOf : Operation → Lent → State → List ℕ → List ℕ
+classesOf luma l s p = s .classes
+classesOf user l s p = classesNow user l s p
+classesOf pretrained l s p = classesNow pretrained l s p
+classesOf chroma l s p = s .classes
 
--- the step of each kind
+abbrev pub movedOn : Operation → Lent → State → List ℕ → Ring
+movedOn luma l s p = shift 8 (took luma l s p)
+movedOn user l s p = shift 8 (tookClassed user l s p)
+movedOn pretrained l s p = shift 8 (tookClassed pretrained l s p)
+movedOn chroma l s p = joined (shift 4 (tookOwn l s p)) (shift 4 (tookLuma l s p))
+
+module _ (op : Operation) (l : Lent) (s : State) (p : List ℕ) where
+  unfoldable pub stateOf : State
+  stateOf = moved s (s .done + 1) (classesOf op l s p) (movedOn op l s p)
+
+  unfoldable pub planeOf : List ℕ
+  planeOf =
+      sets p (startOf s)
+      (tab (s .numbers .w)
+      (λ x.
+      cellOf op (tookOf op l s p .slots) (tookOf op l s p .idx) (step (givenOf (s .numbers)) l) (l .filters) (classesOf op l s p) (maskAt (l .skip) (s .done))
+      (getD p (startOf s + x) 0) x))
+
 abbrev pub stepOf : Operation → Lent → World State → World State
-stepOf luma l x = lumaStep l x
-stepOf user l x = record { state = classedState user l (x .state) (x .plane); plane = userPlane l (x .state) (x .plane) }
-stepOf pretrained l x = record { state = classedState pretrained l (x .state) (x .plane); plane = pretrainedPlane l (x .state) (x .plane) }
-stepOf chroma l x = record { state = chromaState l (x .state) (x .plane); plane = chromaPlane l (x .state) (x .plane) }
+stepOf op l x = record { state = stateOf op l (x .state) (x .plane); plane = planeOf op l (x .state) (x .plane) }
 
 -- THE OPERATION over any state
 abbrev pub units : Op State Call

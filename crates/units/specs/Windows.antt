@@ -1,9 +1,8 @@
 -- What the private functions over rows ask: that all they pad from lies inside.
 use mathlib.Core.Path.{_≡_}
 use mathlib.Core.Bool.{true}
-use mathlib.Core.List.{List, []}
+use mathlib.Core.List.{List}
 use Prim.Native.Nat.{ℕ, _+_, _*_, _≤_, _<_}
-use lib.IntN.{pos}
 use Rattle.definition.specs.Padding.{hasLeft, hasRight}
 use Rattle.definition.specs.Units.{Operation, border, Given, Lent}
 use Rattle.definition.specs.Refusals.{beside, topRows, bottomRows, planeRows}
@@ -11,24 +10,6 @@ use Rattle.definition.specs.Rows.{rowBytes}
 use Rattle.history.specs.Ring.{Ring, fetch}
 use Rattle.model.specs.Rows.{own, padRow}
 use Rattle.model.specs.Fine.{Inside, Sized}
-
--- what rows are padded from, besides the plane
-abbrev pub rowsLent : List ℕ → List ℕ → List ℕ → Lent
-rowsLent left top bottom =
-    record {
-      left = left;
-      top = top;
-      bottom = bottom;
-      lumaPlane = [];
-      lumaTop = [];
-      lumaBottom = [];
-      skip = [];
-      noskip = [];
-      map = [];
-      subclass = [];
-      filters = [];
-      q = pos 0;
-    }
 
 pub record RowsLie (op : Operation) (g : Given) (plane left top bottom : ℕ) : Type 0 where
   pub wide : Sized 64 (g .w)

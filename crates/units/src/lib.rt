@@ -1,28 +1,21 @@
 // Units that can be broken off between rows: open hands out a state, advance takes it with a row count and hands it back.
 ghost use mathlib.Core.Path.{_≡_};
-ghost use Rattle.units.specs.Operations.{answer, Answered, isFinished, stateAt, statusBy};
 ghost use Rattle.definition.specs.Units.{luma, user, pretrained, chroma};
-ghost use Prim.Native.Nat.{ℕ, _≤_};
-ghost use mathlib.Core.List.{List};
-ghost use Rattle.edges.specs.Operations.{operationOf};
-ghost use Rattle.refusals.specs.Given.{sizesGiven};
-ghost use Rattle.units.specs.Windows.{ring};
-ghost use Rattle.units.specs.Openings.{Begun};
+ghost use Rattle.units.specs.Lent.{lumaLent, classedLent, chromaLent};
+ghost use Rattle.units.specs.Operations.{answer, Answered, isFinished};
+ghost use Rattle.units.specs.Openings.{numbersY, numbersC, Begun};
 ghost use Rattle.units.specs.Advances.{callOf};
-ghost use Rattle.units.specs.Chroma.{chromaLent, numbersC};
-ghost use Rattle.units.specs.Classed.{classedLent};
-ghost use Rattle.units.specs.Luma.{lumaLent, numbersY};
 
+mod advance;
 mod chroma;
 mod classed;
-mod luma;
 mod luma_rows;
+mod masks;
 mod opening;
 mod restore;
 mod rows;
 
 use refusals::Numbers;
-use refusals::Sizes;
 
 // A unit between two advances. op: 0 none, 1 y, 2 n (user sets), 3 p (pretrained), 4 c.
 // rows: ten padded rows of 76 bytes; of a chroma unit five of 76 and, behind them, five luma rows of 140.
@@ -74,27 +67,28 @@ impl State {
     ) -> Advanced
         ensures { λ r. ⌜ Answered r (now (p .exit)) (answer (callOf luma count (lumaLent (now (left .entry)) (now (lpf .entry)) (now («lpf_bottom» .entry)) (now (filter .entry)) (now (skip .entry)))) self (now (p .entry))) ⌝ }
     {
-        let z = luma::sizes(p, left, lpf, lpf_bottom, filter, skip);
-        let classes = self.classes;
-        let indices = self.indices;
-        let status = advance_status(
+        let no_sets = [0i16; 0];
+        let no_bytes = [0u8; 0];
+        let no_masks = [0u16; 0];
+        advance::advance(
             1,
-            self.op,
-            self.numbers,
-            self.done,
-            self.next,
-            &classes,
-            &indices,
-            z,
-        );
-        if status != 0 {
-            return Advanced {
-                status,
-                pieces: 0,
-                state: self,
-            };
-        }
-        luma::advanced(self, count, p, left, lpf, lpf_bottom, filter, skip)
+            self,
+            count,
+            p,
+            left,
+            lpf,
+            lpf_bottom,
+            filter,
+            &no_sets,
+            &no_bytes,
+            &no_bytes,
+            &no_masks,
+            0,
+            &no_bytes,
+            &no_bytes,
+            &no_bytes,
+            skip,
+        )
     }
 
     // The next count rows of a unit with user sets, or all that remain.
@@ -114,38 +108,10 @@ impl State {
     ) -> Advanced
         ensures { λ r. ⌜ Answered r (now (p .exit)) (answer (callOf user count (classedLent (now (left .entry)) (now (lpf .entry)) (now («lpf_bottom» .entry)) (now (filters .entry)) (now (map .entry)) (now (subclass .entry)) (now (noskip .entry)) (now (skip .entry)) «base_q»)) self (now (p .entry))) ⌝ }
     {
-        let z = classed::sizes(
+        let no_sets = [0i16; 0];
+        let no_bytes = [0u8; 0];
+        advance::advance(
             2,
-            p,
-            left,
-            lpf,
-            lpf_bottom,
-            filters.len(),
-            map,
-            subclass,
-            noskip,
-            skip,
-        );
-        let classes = self.classes;
-        let indices = self.indices;
-        let status = advance_status(
-            2,
-            self.op,
-            self.numbers,
-            self.done,
-            self.next,
-            &classes,
-            &indices,
-            z,
-        );
-        if status != 0 {
-            return Advanced {
-                status,
-                pieces: 0,
-                state: self,
-            };
-        }
-        classed::advanced_n(
             self,
             count,
             p,
@@ -153,10 +119,14 @@ impl State {
             lpf,
             lpf_bottom,
             filters,
+            &no_sets,
             map,
             subclass,
             noskip,
             base_q,
+            &no_bytes,
+            &no_bytes,
+            &no_bytes,
             skip,
         )
     }
@@ -178,49 +148,25 @@ impl State {
     ) -> Advanced
         ensures { λ r. ⌜ Answered r (now (p .exit)) (answer (callOf pretrained count (classedLent (now (left .entry)) (now (lpf .entry)) (now («lpf_bottom» .entry)) (now (filters .entry)) (now (map .entry)) (now (subclass .entry)) (now (noskip .entry)) (now (skip .entry)) «base_q»)) self (now (p .entry))) ⌝ }
     {
-        let z = classed::sizes(
+        let no_bytes = [0u8; 0];
+        let no_filters = [0i8; 0];
+        advance::advance(
             3,
-            p,
-            left,
-            lpf,
-            lpf_bottom,
-            filters.len(),
-            map,
-            subclass,
-            noskip,
-            skip,
-        );
-        let classes = self.classes;
-        let indices = self.indices;
-        let status = advance_status(
-            3,
-            self.op,
-            self.numbers,
-            self.done,
-            self.next,
-            &classes,
-            &indices,
-            z,
-        );
-        if status != 0 {
-            return Advanced {
-                status,
-                pieces: 0,
-                state: self,
-            };
-        }
-        classed::advanced_p(
             self,
             count,
             p,
             left,
             lpf,
             lpf_bottom,
+            &no_filters,
             filters,
             map,
             subclass,
             noskip,
             base_q,
+            &no_bytes,
+            &no_bytes,
+            &no_bytes,
             skip,
         )
     }
@@ -241,37 +187,11 @@ impl State {
     ) -> Advanced
         ensures { λ r. ⌜ Answered r (now (p .exit)) (answer (callOf chroma count (chromaLent (now (left .entry)) (now (lpf .entry)) (now («lpf_bottom» .entry)) (now (filter .entry)) (now (luma .entry)) (now («luma_top» .entry)) (now («luma_bottom» .entry)) (now (skip .entry)))) self (now (p .entry))) ⌝ }
     {
-        let z = chroma::sizes(
-            p,
-            left,
-            lpf,
-            lpf_bottom,
-            filter,
-            luma,
-            luma_top,
-            luma_bottom,
-            skip,
-        );
-        let classes = self.classes;
-        let indices = self.indices;
-        let status = advance_status(
+        let no_sets = [0i16; 0];
+        let no_bytes = [0u8; 0];
+        let no_masks = [0u16; 0];
+        advance::advance(
             4,
-            self.op,
-            self.numbers,
-            self.done,
-            self.next,
-            &classes,
-            &indices,
-            z,
-        );
-        if status != 0 {
-            return Advanced {
-                status,
-                pieces: 0,
-                state: self,
-            };
-        }
-        chroma::advanced(
             self,
             count,
             p,
@@ -279,35 +199,17 @@ impl State {
             lpf,
             lpf_bottom,
             filter,
+            &no_sets,
+            &no_bytes,
+            &no_bytes,
+            &no_masks,
+            0,
             luma,
             luma_top,
             luma_bottom,
             skip,
         )
     }
-}
-
-// The table for an advance: the state's shape and the kept classes come first. The state is handed over without its rows, which nothing here looks at.
-fn advance_status(
-    op: usize,
-    of: usize,
-    g: Numbers,
-    done: usize,
-    next: usize,
-    classes: &[u8; 16],
-    indices: &[usize; 10],
-    z: Sizes,
-) -> u8
-    requires { ⌜ (1 ≤ op) × (op ≤ 4) ⌝ }
-    ensures { λ r. ⌜ ((rows : List ℕ) → r ≡ statusBy (operationOf op) (stateAt of g done (now (classes .entry)) (ring rows (now (indices .entry)) next)) (sizesGiven z)) ⌝ }
-{
-    if refusals::bad_shape(op, of != op, done, g.h, indices, next) {
-        return 13;
-    }
-    if refusals::bad_kept(op, classes, z.filters) {
-        return 13;
-    }
-    refusals::unit_status(op, g, z)
 }
 
 // A luma unit, opened over a plane that is not written.
@@ -328,10 +230,27 @@ pub fn open_y(
 ) -> Opened
     ensures { λ r. ⌜ Begun luma r (numbersY w h edges stride «p_off» «lpf_off» «lpf_bottom_off») (lumaLent (now (left .entry)) (now (lpf .entry)) (now («lpf_bottom» .entry)) (now (filter .entry)) (now (skip .entry))) (now (p .entry)) ⌝ }
 {
-    let g = luma::numbers(w, h, edges, stride, p_off, lpf_off, lpf_bottom_off);
-    let z = luma::sizes(p, left, lpf, lpf_bottom, filter, skip);
-    let status = refusals::unit_status(1, g, z);
-    opening::open(1, g, status, p, left, lpf, lpf_bottom)
+    let g = opening::numbers(w, h, edges, stride, p_off, lpf_off, lpf_bottom_off);
+    let no_sets = [0i16; 0];
+    let no_bytes = [0u8; 0];
+    let no_masks = [0u16; 0];
+    opening::open(
+        1,
+        g,
+        p,
+        left,
+        lpf,
+        lpf_bottom,
+        filter,
+        &no_sets,
+        &no_bytes,
+        &no_bytes,
+        &no_masks,
+        &no_bytes,
+        &no_bytes,
+        &no_bytes,
+        skip,
+    )
 }
 
 // A unit with user sets, opened over a plane that is not written.
@@ -356,21 +275,26 @@ pub fn open_n(
 ) -> Opened
     ensures { λ r. ⌜ Begun user r (numbersY w h edges stride «p_off» «lpf_off» «lpf_bottom_off») (classedLent (now (left .entry)) (now (lpf .entry)) (now («lpf_bottom» .entry)) (now (filters .entry)) (now (map .entry)) (now (subclass .entry)) (now (noskip .entry)) (now (skip .entry)) «base_q») (now (p .entry)) ⌝ }
 {
-    let g = luma::numbers(w, h, edges, stride, p_off, lpf_off, lpf_bottom_off);
-    let z = classed::sizes(
+    let g = opening::numbers(w, h, edges, stride, p_off, lpf_off, lpf_bottom_off);
+    let no_sets = [0i16; 0];
+    let no_bytes = [0u8; 0];
+    opening::open(
         2,
+        g,
         p,
         left,
         lpf,
         lpf_bottom,
-        filters.len(),
+        filters,
+        &no_sets,
         map,
         subclass,
         noskip,
+        &no_bytes,
+        &no_bytes,
+        &no_bytes,
         skip,
-    );
-    let status = refusals::unit_status(2, g, z);
-    opening::open(2, g, status, p, left, lpf, lpf_bottom)
+    )
 }
 
 // A unit with pretrained sets, opened over a plane that is not written.
@@ -395,21 +319,26 @@ pub fn open_p(
 ) -> Opened
     ensures { λ r. ⌜ Begun pretrained r (numbersY w h edges stride «p_off» «lpf_off» «lpf_bottom_off») (classedLent (now (left .entry)) (now (lpf .entry)) (now («lpf_bottom» .entry)) (now (filters .entry)) (now (map .entry)) (now (subclass .entry)) (now (noskip .entry)) (now (skip .entry)) «base_q») (now (p .entry)) ⌝ }
 {
-    let g = luma::numbers(w, h, edges, stride, p_off, lpf_off, lpf_bottom_off);
-    let z = classed::sizes(
+    let g = opening::numbers(w, h, edges, stride, p_off, lpf_off, lpf_bottom_off);
+    let no_bytes = [0u8; 0];
+    let no_filters = [0i8; 0];
+    opening::open(
         3,
+        g,
         p,
         left,
         lpf,
         lpf_bottom,
-        filters.len(),
+        &no_filters,
+        filters,
         map,
         subclass,
         noskip,
+        &no_bytes,
+        &no_bytes,
+        &no_bytes,
         skip,
-    );
-    let status = refusals::unit_status(3, g, z);
-    opening::open(3, g, status, p, left, lpf, lpf_bottom)
+    )
 }
 
 // A chroma unit, opened over a plane that is not written.
@@ -456,13 +385,21 @@ pub fn open_c<'a>(
         ss_ver,
         kind: ds_flt,
     };
-    chroma::open(
+    let no_sets = [0i16; 0];
+    let no_bytes = [0u8; 0];
+    let no_masks = [0u16; 0];
+    opening::open(
+        4,
         g,
         p,
         left,
         lpf,
         lpf_bottom,
         filter,
+        &no_sets,
+        &no_bytes,
+        &no_bytes,
+        &no_masks,
         luma,
         luma_top,
         luma_bottom,

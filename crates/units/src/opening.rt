@@ -1,11 +1,16 @@
 // What an opening hands back, whatever the kind of unit.
 ghost use mathlib.Core.Path.{_≡_};
-ghost use Prim.Native.Nat.{_≤_};
+ghost use mathlib.Core.List.{List, []};
+ghost use Prim.Native.Nat.{ℕ, _≤_};
+ghost use lib.IntN.{ℤ};
 ghost use lib.ListN.{length};
+ghost use Rattle.definition.specs.Units.{Lent};
 ghost use Rattle.edges.specs.Operations.{operationOf};
 ghost use Rattle.refusals.specs.Given.{givenOf};
-ghost use Rattle.units.specs.Windows.{RowsLie, rowsLent};
-ghost use Rattle.units.specs.Openings.{noNumbers, noState, openState, stateUnless};
+ghost use Rattle.units.specs.Lent.{unitLent, chromaLent};
+ghost use Rattle.units.specs.Windows.{RowsLie};
+ghost use Rattle.units.specs.OneRow.{LumaLie};
+ghost use Rattle.units.specs.Openings.{numbersY, noNumbers, noState, openRings, openState, Begun};
 use crate::Opened;
 use crate::State;
 use refusals::Numbers;
@@ -13,7 +18,7 @@ use refusals::Numbers;
 fn no_numbers() -> Numbers
     ensures { λ r. ⌜ r ≡ noNumbers ⌝ }
 {
-    crate::luma::numbers(0, 0, 0, 0, 0, 0, 0)
+    numbers(0, 0, 0, 0, 0, 0, 0)
 }
 
 // The state of zeros.
@@ -31,39 +36,111 @@ pub fn none() -> State
     }
 }
 
-// The state of a unit that is not declined, before its first row.
-fn first_state(op: usize, g: Numbers, p: &[u8], left: &[u8], top: &[u8], bottom: &[u8]) -> State
-    requires { ⌜ (1 ≤ op) × (op ≤ 3) ⌝ }
+// The padded rows of a unit that is not declined, before its first row.
+fn first_rows<'a>(
+    op: usize,
+    g: Numbers,
+    p: &[u8],
+    left: &[u8],
+    top: &[u8],
+    bottom: &[u8],
+    luma: &'a [u8],
+    luma_top: &'a [u8],
+    luma_bottom: &'a [u8],
+) -> [u8; 1080]
+    requires { ⌜ (1 ≤ op) × (op ≤ 4) ⌝ }
     requires { ⌜ RowsLie (operationOf op) (givenOf g) (length (now p)) (length (now left)) (length (now top)) (length (now bottom)) ⌝ }
-    ensures { λ r. ⌜ r ≡ openState (operationOf op) g (rowsLent (now (left .entry)) (now (top .entry)) (now (bottom .entry))) (now (p .entry)) ⌝ }
+    requires { ⌜ (op ≡ 4 → LumaLie (givenOf g) (length (now luma)) (length (now «luma_top»)) (length (now «luma_bottom»))) ⌝ }
+    ensures { λ r. ⌜ r ≡ openRings (operationOf op) g (chromaLent (now (left .entry)) (now (top .entry)) (now (bottom .entry)) [] (now (luma .entry)) (now («luma_top» .entry)) (now («luma_bottom» .entry)) []) (now (p .entry)) .slots ⌝ }
 {
-    let rows = crate::rows::open_rows(op, g, p, left, top, bottom);
-    let indices = crate::rows::open_indices(op, g);
+    let mut rows = crate::rows::open_rows(op, g, p, left, top, bottom);
+    if op != 4 {
+        return rows;
+    }
+    crate::luma_rows::open_luma_rows(g, luma, luma_top, luma_bottom, &mut rows);
+    rows
+}
+
+// .. and their indices.
+fn first_indices(op: usize, g: Numbers) -> [usize; 10]
+    requires { ⌜ (1 ≤ op) × (op ≤ 4) ⌝ }
+    ensures { λ r. ⌜ ((l : Lent) (p : List ℕ) → r ≡ openRings (operationOf op) g l p .idx) ⌝ }
+{
+    if op == 4 {
+        return crate::chroma::open_indices(g);
+    }
+    crate::rows::open_indices(op, g)
+}
+
+// The state of a unit that is not declined, before its first row.
+fn first_state<'a>(
+    op: usize,
+    g: Numbers,
+    p: &[u8],
+    left: &[u8],
+    top: &[u8],
+    bottom: &[u8],
+    luma: &'a [u8],
+    luma_top: &'a [u8],
+    luma_bottom: &'a [u8],
+) -> State
+    requires { ⌜ (1 ≤ op) × (op ≤ 4) ⌝ }
+    requires { ⌜ RowsLie (operationOf op) (givenOf g) (length (now p)) (length (now left)) (length (now top)) (length (now bottom)) ⌝ }
+    requires { ⌜ (op ≡ 4 → LumaLie (givenOf g) (length (now luma)) (length (now «luma_top»)) (length (now «luma_bottom»))) ⌝ }
+    ensures { λ r. ⌜ r ≡ openState (operationOf op) g (chromaLent (now (left .entry)) (now (top .entry)) (now (bottom .entry)) [] (now (luma .entry)) (now («luma_top» .entry)) (now («luma_bottom» .entry)) []) (now (p .entry)) ⌝ }
+{
+    let e = edges::border_of(op);
+    let indices = first_indices(op, g);
+    let rows = first_rows(op, g, p, left, top, bottom, luma, luma_top, luma_bottom);
     State {
         op,
         numbers: g,
         done: 0,
-        next: 8,
+        next: e + e,
         classes: [0u8; 16],
         indices,
         rows,
     }
 }
 
-// What an opening hands back, by its status.
-pub fn open(
+// An opening with these numbers.
+pub fn open<'a>(
     op: usize,
     g: Numbers,
-    status: u8,
     p: &[u8],
     left: &[u8],
     top: &[u8],
     bottom: &[u8],
+    filters: &[i8],
+    wide: &[i16],
+    map: &[u8],
+    subclass: &[u8],
+    noskip: &[u16],
+    luma: &'a [u8],
+    luma_top: &'a [u8],
+    luma_bottom: &'a [u8],
+    skip: &[u16],
 ) -> Opened
-    requires { ⌜ (1 ≤ op) × (op ≤ 3) ⌝ }
-    requires { ⌜ (status ≡ 0 → RowsLie (operationOf op) (givenOf g) (length (now p)) (length (now left)) (length (now top)) (length (now bottom))) ⌝ }
-    ensures { λ r. ⌜ (r .status ≡ status) × (r .state ≡ stateUnless status (openState (operationOf op) g (rowsLent (now (left .entry)) (now (top .entry)) (now (bottom .entry))) (now (p .entry)))) ⌝ }
+    requires { ⌜ (1 ≤ op) × (op ≤ 4) ⌝ }
+    ensures { λ r. ⌜ ((q : ℤ) → Begun (operationOf op) r g (unitLent (operationOf op) (now (left .entry)) (now (top .entry)) (now (bottom .entry)) (now (filters .entry)) (now (wide .entry)) (now (map .entry)) (now (subclass .entry)) (now (noskip .entry)) q (now (luma .entry)) (now («luma_top» .entry)) (now («luma_bottom» .entry)) (now (skip .entry))) (now (p .entry))) ⌝ }
 {
+    let z = crate::advance::sizes(
+        op,
+        p,
+        left,
+        top,
+        bottom,
+        filters,
+        wide,
+        map,
+        subclass,
+        noskip,
+        luma,
+        luma_top,
+        luma_bottom,
+        skip,
+    );
+    let status = refusals::unit_status(op, g, z);
     if status != 0 {
         return Opened {
             status,
@@ -71,7 +148,37 @@ pub fn open(
         };
     }
     Opened {
-        status,
-        state: first_state(op, g, p, left, top, bottom),
+        status: 0,
+        state: first_state(op, g, p, left, top, bottom, luma, luma_top, luma_bottom),
+    }
+}
+
+// The numbers that a unit without luma rows is opened with: what it does not use is 0.
+pub fn numbers(
+    w: usize,
+    h: usize,
+    edges: usize,
+    stride: usize,
+    off: usize,
+    top_off: usize,
+    bottom_off: usize,
+) -> Numbers
+    ensures { λ r. ⌜ r ≡ numbersY w h edges stride off «top_off» «bottom_off» ⌝ }
+{
+    Numbers {
+        w,
+        h,
+        edges,
+        stride,
+        luma_stride: 0,
+        off,
+        top_off,
+        bottom_off,
+        luma_off: 0,
+        luma_top_off: 0,
+        luma_bottom_off: 0,
+        ss_hor: 0,
+        ss_ver: 0,
+        kind: 0,
     }
 }

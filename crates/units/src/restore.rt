@@ -5,9 +5,11 @@ ghost use lib.IntN.{pos};
 ghost use lib.ListN.{length, getD};
 ghost use lib.Seq.{sets};
 ghost use Rattle.definition.specs.Rows.{tab};
-ghost use Rattle.definition.specs.Units.{user, pretrained, setOf};
-ghost use Rattle.units.specs.Cells.{lumaCell, userCell, pretrainedCell, chromaCell};
-ghost use Rattle.units.specs.Unmasked.{lumaOpen, pretrainedOpen, chromaOpen};
+ghost use Rattle.definition.specs.Refusals.{indexLimit};
+ghost use Rattle.edges.specs.Operations.{operationOf};
+ghost use Rattle.units.specs.Lent.{filtersOf};
+ghost use Rattle.units.specs.Cells.{cellOf};
+ghost use Rattle.units.specs.Unmasked.{lumaOpen, pretrainedOpen, chromaOpen, openOf, setStart, setFor, HasSet};
 ghost use Rattle.filter.specs.Runs.{coefficients};
 
 // Samples x0 .. x1 - 1 of a luma row, one filter run.
@@ -77,12 +79,11 @@ fn run_c(
     );
 }
 
-// What a luma sample uses of a class's user set.
-fn user_set(filters: &[i8], class: u8) -> [i8; 16]
-    requires { ⌜ class < length (now filters) / 18 ⌝ }
-    ensures { λ r. ⌜ ((k : ℕ) → k < 16 → getD r k (pos 0) ≡ setOf user (now (filters .entry)) class k) ⌝ }
+// The 16 numbers of a luma filter or of a user set, from number `at` on; then the 13 of a pretrained set and the 18 of a chroma filter.
+fn sixteen(filters: &[i8], at: usize) -> [i8; 16]
+    requires { ⌜ at + 16 ≤ length (now filters) ⌝ }
+    ensures { λ r. ⌜ ((k : ℕ) → k < 16 → getD r k (pos 0) ≡ getD (now (filters .entry)) (at + k) (pos 0)) ⌝ }
 {
-    let at = 18 * (class as usize);
     let mut set: [i8; 16] = [0; 16];
     let mut k = 0;
     while k < 16 {
@@ -92,12 +93,10 @@ fn user_set(filters: &[i8], class: u8) -> [i8; 16]
     set
 }
 
-// A class's pretrained set.
-fn pretrained_set(filters: &[i16], class: u8) -> [i16; 13]
-    requires { ⌜ class < length (now filters) / 13 ⌝ }
-    ensures { λ r. ⌜ ((k : ℕ) → k < 13 → getD r k (pos 0) ≡ setOf pretrained (now (filters .entry)) class k) ⌝ }
+fn thirteen(filters: &[i16], at: usize) -> [i16; 13]
+    requires { ⌜ at + 13 ≤ length (now filters) ⌝ }
+    ensures { λ r. ⌜ ((k : ℕ) → k < 13 → getD r k (pos 0) ≡ getD (now (filters .entry)) (at + k) (pos 0)) ⌝ }
 {
-    let at = 13 * (class as usize);
     let mut set: [i16; 13] = [0; 13];
     let mut k = 0;
     while k < 13 {
@@ -107,121 +106,108 @@ fn pretrained_set(filters: &[i16], class: u8) -> [i16; 13]
     set
 }
 
-// One row of w samples of a luma unit, from byte `at` of the plane on.
-pub fn restore_y(
-    p: &mut [u8],
-    at: usize,
-    w: usize,
-    rows: &[u8; 1080],
-    indices: &[usize; 10],
-    filter: &[i8; 16],
-    mask: u16,
-)
-    requires { ⌜ (w % 4 ≡ 0) × (w ≤ 64) × (at + w ≤ length (now p)) ⌝ }
-    requires { ⌜ ((j : ℕ) → j < 10 → getD (now indices) j 0 ≤ 9) ⌝ }
-    ensures { λ _. ⌜ now (p .exit) ≡ sets (now (p .entry)) at (tab w (λ x. lumaCell (now (rows .entry)) (now (indices .entry)) (now (filter .entry)) mask (getD (now (p .entry)) (at + x) 0) x)) ⌝ }
+fn eighteen(filters: &[i8], at: usize) -> [i8; 18]
+    requires { ⌜ at + 18 ≤ length (now filters) ⌝ }
+    ensures { λ r. ⌜ ((k : ℕ) → k < 18 → getD r k (pos 0) ≡ getD (now (filters .entry)) (at + k) (pos 0)) ⌝ }
 {
-    let bw = w / 4;
-    let mut bx = 0;
-    while bx < bw {
-        if (mask >> bx) % 2 == 1 {
-            bx += 1;
-        } else {
-            let e = blocks::stretch_end(mask, bx, bw).end;
-            run_y(p, at, bx * 4, e * 4, rows, indices, filter);
-            bx = e;
-        }
+    let mut set: [i8; 18] = [0; 18];
+    let mut k = 0;
+    while k < 18 {
+        set[k] = filters[at + k];
+        k += 1;
+    }
+    set
+}
+
+// Where a class's set begins; a unit without classes has one.
+fn set_start(op: usize, class: u8) -> usize
+    ensures { λ r. ⌜ r ≡ setStart (operationOf op) class ⌝ }
+{
+    match op {
+        2 => 18 * (class as usize),
+        3 => 13 * (class as usize),
+        _ => 0,
     }
 }
 
-// The same of a unit with user sets of 18 numbers, of which a sample uses the first 16, by the class of each block.
-pub fn restore_n(
+// Samples x0 .. x1 - 1 of a row, of one class: one filter run. Pretrained sets are of 16 bits, all others of 8; step is the luma columns to a chroma column.
+fn run(
+    op: usize,
     p: &mut [u8],
     at: usize,
-    w: usize,
+    x0: usize,
+    x1: usize,
     rows: &[u8; 1080],
     indices: &[usize; 10],
+    step: usize,
     filters: &[i8],
-    classes: &[u8; 16],
-    mask: u16,
+    wide: &[i16],
+    class: u8,
 )
-    requires { ⌜ (w % 4 ≡ 0) × (w ≤ 64) × (at + w ≤ length (now p)) ⌝ }
-    requires { ⌜ ((j : ℕ) → j < 10 → getD (now indices) j 0 ≤ 9) ⌝ }
-    requires { ⌜ ((j : ℕ) → j < 16 → getD (now classes) j 0 < length (now filters) / 18) ⌝ }
-    ensures { λ _. ⌜ now (p .exit) ≡ sets (now (p .entry)) at (tab w (λ x. userCell (now (rows .entry)) (now (indices .entry)) (now (filters .entry)) (now (classes .entry)) mask (getD (now (p .entry)) (at + x) 0) x)) ⌝ }
+    requires { ⌜ (1 ≤ op) × (op ≤ 4) ⌝ }
+    requires { ⌜ (x0 ≤ x1) × (x1 ≤ 64) × (at + x1 ≤ length (now p)) × (step ≤ 2) ⌝ }
+    requires { ⌜ ((j : ℕ) → j < 10 → getD (now indices) j 0 ≤ indexLimit (operationOf op)) ⌝ }
+    requires { ⌜ HasSet (operationOf op) (length (filtersOf (operationOf op) (now filters) (now wide))) class ⌝ }
+    ensures { λ _. ⌜ now (p .exit) ≡ sets (now (p .entry)) (at + x0) (tab (x1 - x0) (λ i. openOf (operationOf op) (now (rows .entry)) (now (indices .entry)) step (setFor (operationOf op) (filtersOf (operationOf op) (now (filters .entry)) (now (wide .entry))) class) (x0 + i))) ⌝ }
 {
-    let bw = w / 4;
-    let mut bx = 0;
-    while bx < bw {
-        let s = blocks::class_stretch(mask, classes, bx, bw);
-        let start = s.start;
-        let end = s.end;
-        if start < bw {
-            let set = user_set(filters, classes[start]);
-            run_y(p, at, start * 4, end * 4, rows, indices, &set);
-            bx = end;
-        } else {
-            bx = bw;
-        }
+    let from = set_start(op, class);
+    if op == 3 {
+        let set = thirteen(wide, from);
+        run_p(p, at, x0, x1, rows, indices, &set);
+        return;
     }
+    if op == 4 {
+        let set = eighteen(filters, from);
+        run_c(p, at, x0, x1, rows, indices, step, &set);
+        return;
+    }
+    let set = sixteen(filters, from);
+    run_y(p, at, x0, x1, rows, indices, &set);
 }
 
-// The same of a unit with pretrained sets of 13 numbers.
-pub fn restore_p(
-    p: &mut [u8],
-    at: usize,
-    w: usize,
-    rows: &[u8; 1080],
-    indices: &[usize; 10],
-    filters: &[i16],
-    classes: &[u8; 16],
-    mask: u16,
-)
-    requires { ⌜ (w % 4 ≡ 0) × (w ≤ 64) × (at + w ≤ length (now p)) ⌝ }
-    requires { ⌜ ((j : ℕ) → j < 10 → getD (now indices) j 0 ≤ 9) ⌝ }
-    requires { ⌜ ((j : ℕ) → j < 16 → getD (now classes) j 0 < length (now filters) / 13) ⌝ }
-    ensures { λ _. ⌜ now (p .exit) ≡ sets (now (p .entry)) at (tab w (λ x. pretrainedCell (now (rows .entry)) (now (indices .entry)) (now (filters .entry)) (now (classes .entry)) mask (getD (now (p .entry)) (at + x) 0) x)) ⌝ }
-{
-    let bw = w / 4;
-    let mut bx = 0;
-    while bx < bw {
-        let s = blocks::class_stretch(mask, classes, bx, bw);
-        let start = s.start;
-        let end = s.end;
-        if start < bw {
-            let set = pretrained_set(filters, classes[start]);
-            run_p(p, at, start * 4, end * 4, rows, indices, &set);
-            bx = end;
-        } else {
-            bx = bw;
-        }
-    }
-}
-
-// The same of a chroma unit; step is the luma columns to a chroma column.
-pub fn restore_c(
+// One row of w samples, from byte `at` of the plane on. Where there are no classes, those that are kept from block to block may split a stretch, and change no sample.
+pub fn restore(
+    op: usize,
     p: &mut [u8],
     at: usize,
     w: usize,
     rows: &[u8; 1080],
     indices: &[usize; 10],
     step: usize,
-    filter: &[i8; 18],
+    filters: &[i8],
+    wide: &[i16],
+    classes: &[u8; 16],
     mask: u16,
 )
+    requires { ⌜ (1 ≤ op) × (op ≤ 4) ⌝ }
     requires { ⌜ (w % 4 ≡ 0) × (w ≤ 64) × (at + w ≤ length (now p)) × (step ≤ 2) ⌝ }
-    requires { ⌜ ((j : ℕ) → j < 10 → getD (now indices) j 0 ≤ 4) ⌝ }
-    ensures { λ _. ⌜ now (p .exit) ≡ sets (now (p .entry)) at (tab w (λ x. chromaCell (now (rows .entry)) (now (indices .entry)) step (now (filter .entry)) mask (getD (now (p .entry)) (at + x) 0) x)) ⌝ }
+    requires { ⌜ ((j : ℕ) → j < 10 → getD (now indices) j 0 ≤ indexLimit (operationOf op)) ⌝ }
+    requires { ⌜ ((j : ℕ) → j < 16 → HasSet (operationOf op) (length (filtersOf (operationOf op) (now filters) (now wide))) (getD (now classes) j 0)) ⌝ }
+    ensures { λ _. ⌜ now (p .exit) ≡ sets (now (p .entry)) at (tab w (λ x. cellOf (operationOf op) (now (rows .entry)) (now (indices .entry)) step (filtersOf (operationOf op) (now (filters .entry)) (now (wide .entry))) (now (classes .entry)) mask (getD (now (p .entry)) (at + x) 0) x)) ⌝ }
 {
     let bw = w / 4;
     let mut bx = 0;
     while bx < bw {
-        if (mask >> bx) % 2 == 1 {
-            bx += 1;
+        let s = blocks::class_stretch(mask, classes, bx, bw);
+        let start = s.start;
+        let end = s.end;
+        if start < bw {
+            run(
+                op,
+                p,
+                at,
+                start * 4,
+                end * 4,
+                rows,
+                indices,
+                step,
+                filters,
+                wide,
+                classes[start],
+            );
+            bx = end;
         } else {
-            let e = blocks::stretch_end(mask, bx, bw).end;
-            run_c(p, at, bx * 4, e * 4, rows, indices, step, filter);
-            bx = e;
+            bx = bw;
         }
     }
 }

@@ -1,9 +1,8 @@
 // The ring of padded rows: a row is padded into a slot, and ten indices say which slot holds which row of the window.
 ghost use mathlib.Core.Path.{_≡_};
-ghost use Prim.Native.Nat.{_+_, _*_, _-_, _/_, _%_, _≤_, _<_, max};
+ghost use Prim.Native.Nat.{_+_, _*_, _-_, _≤_, _<_, max};
 ghost use lib.ListN.{length, replicate};
 ghost use lib.Seq.{sets};
-ghost use lib.Dec.{eqb};
 ghost use lib.IntN.{pos};
 ghost use Rattle.definition.specs.Units.{border};
 ghost use Rattle.definition.specs.Padding.{rowAt, after};
@@ -15,7 +14,8 @@ ghost use Rattle.model.specs.Rows.{padRow, firstRow, belowRows, own};
 ghost use Rattle.model.specs.Opening.{filled, openIndex};
 ghost use Rattle.edges.specs.Operations.{operationOf};
 ghost use Rattle.refusals.specs.Given.{givenOf};
-ghost use Rattle.units.specs.Windows.{rowsLent, RowsLie, ring, Fetched};
+ghost use Rattle.units.specs.Lent.{rowsLent};
+ghost use Rattle.units.specs.Windows.{RowsLie, ring, Fetched};
 use edges::border_of;
 use edges::is_set;
 use edges::top_rows;

@@ -1,8 +1,7 @@
 // looprestoration.rs: the whole-unit operations. Each opens a unit and advances it by all its rows.
 ghost use Rattle.definition.specs.Units.{luma, user, pretrained, chroma};
-ghost use Rattle.units.specs.Chroma.{chromaLent, numbersC};
-ghost use Rattle.units.specs.Classed.{classedLent};
-ghost use Rattle.units.specs.Luma.{lumaLent, numbersY};
+ghost use Rattle.units.specs.Lent.{chromaLent, classedLent, lumaLent};
+ghost use Rattle.units.specs.Openings.{numbersC, numbersY};
 ghost use Rattle.whole.specs.Whole.{Whole};
 use units::open_c;
 use units::open_n;

@@ -1,8 +1,7 @@
 use native.Mathlib.Omega.{arith}
-use mathlib.Core.Path.{_≡_, sym, _∙_}
-use Prim.Native.Nat.{_≤_}
+use mathlib.Core.Path.{sym}
 use mathlib.Core.List.{_++_}
-use lib.ListN.{length, take, drop, length-append}
+use lib.ListN.{drop, length-append}
 use lib.Seq.{length-take-le}
 use borrow.Author.Needs.{needs}
 use Rattle.card_corpus.proofs.answer_one.Statement.{statement}

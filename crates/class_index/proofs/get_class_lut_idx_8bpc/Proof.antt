@@ -1,7 +1,6 @@
 -- `class_index::get_class_lut_idx_8bpc` meets its contract: a refused call answers 0, and else the index is taken from the features. Assumes nothing.
 use mathlib.Core.Path.{_≡_, sym, ap, _∙_}
 use Prim.Native.Nat.{ℕ, _*_}
-use native.Mathlib.Omega.{arith}
 use lib.ListN.{length, getD}
 use mir.Syntax.{w32}
 use mir.Val.{toZ, ofZ}

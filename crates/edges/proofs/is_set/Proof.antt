@@ -1,8 +1,4 @@
 -- `edges::is_set` meets its contract: there is no bit of value 0, as a quotient by 0 is 0. Assumes nothing.
-use mathlib.Core.Path.{_≡_, refl, sym}
-use mathlib.Core.Bool.{false}
-use Prim.Native.Nat.{_/_, _%_}
-use lib.Dec.{eqb}
 use native.Mathlib.Nat.{div-zero}
 use borrow.Author.Needs.{needs}
 use Rattle.edges.proofs.is_set.Statement.{statement}

@@ -1,5 +1,5 @@
 -- `features::pcw_features` meets its contract: a refused call answers zeros, and else the rows lie inside. Assumes nothing.
-use mathlib.Core.Path.{_≡_, sym, _∙_}
+use mathlib.Core.Path.{sym, _∙_}
 use mathlib.Core.List.{[], _∷_}
 use Prim.Native.Nat.{_≤_}
 use native.Mathlib.Omega.{arith}

@@ -1,9 +1,9 @@
 -- `padding::backup_into` meets its contract: three stretches, one behind the other, are one padded row (`row-written`). Assumes nothing.
 use mathlib.Core.Path.{sym, _∙_}
 use native.Mathlib.Omega.{arith}
-use borrow.Author.Needs.{needs}
 use Rattle.definition.specs.Padding.{hasLeft, hasRight}
 use Rattle.padding.proofs.Around.{beside-inside, beside-set, row-written}
+use borrow.Author.Needs.{needs}
 use Rattle.padding.proofs.backup_into.Statement.{statement}
 use Rattle.padding.proofs.backup_into.Tie as tie
 
@@ -36,38 +36,21 @@ beside-into-requires c κs =
           omega (arith, c .before .before .beside-of .ensures, beside-set (has .result) (a .edge-len) h),
     )
 
-copy-into-requires : tie.Need-copy-into-requires
-copy-into-requires c κs = search needs
-
-add-end : tie.Need-add-end
-add-end c = search needs
-
-add-beside-into : tie.Need-add-beside-into
-add-beside-into c = search needs
-
-sub-beside-into-2 : tie.Need-sub-beside-into-2
-sub-beside-into-2 c = search needs
-
-shared-slice-read-beside-into-2 : tie.Need-shared-slice-read-beside-into-2
-shared-slice-read-beside-into-2 c = search needs
-
 has-right-requires : tie.Need-has-right-requires
 has-right-requires c κs = search needs
 
-beside-into-requires-2 : tie.Need-beside-into-requires-2
-beside-into-requires-2 c κs =
-    let s = c .before .before .before .before .before .before .before .before .before .before .before .before .before .before .before .before .before in
-    let a = s .args in
-    (omega arith, λ h. omega (arith, s .pre .row, beside-set (hasRight (a .edges)) (a .edge-len) (sym (c .has-right .ensures) ∙ h)))
+row-into-requires : tie.Need-row-into-requires
+row-into-requires c κs =
+    let s = c .before .before .before .before .before .before .before .before .before .before .before .before in (s .pre .some, omega arith, rw (c .has-right .ensures) (s .pre .row))
 
 same-length : tie.Need-same-length
 same-length c = search needs
 
 returns : tie.Need-returns
 returns c =
-    let s = c .before .before .before .before .before .before .before .before .before .before .before .before .before .before .before .before .before .before .before .before in
+    let s = c .before .before .before .before .before .before .before .before .before .before .before .before .before .before .before in
     let a = s .args in
-    rw (c .before .before .beside-into2 .ensures, c .before .before .before .before .before .before .before .before .copy-into .ensures, c .before .before .before .before .before .before .before .before .before .before .before .before .beside-into .ensures, c .before .before .before .before .before .before .before .before .before .before .before .before .before .before .before .beside-of .ensures, c .before .before .before .before .before .before .before .before .before .before .before .before .before .before .before .before .has-left .ensures, c .before .before .before .has-right .ensures)
+    rw (c .before .before .row-into .ensures, c .before .before .before .before .before .before .before .beside-into .ensures, c .before .before .before .before .before .before .before .before .before .before .beside-of .ensures, c .before .before .before .before .before .before .before .before .before .before .before .has-left .ensures, c .before .before .before .has-right .ensures)
     (row-written (a .src .now) (a .left .now) (a .o) (a .src-o) (a .left-off) (a .w) (a .edge-len) (s .pre .some) (s .pre .front) (hasLeft (a .edges)) (hasRight (a .edges)) (a .dst .now)
     (λ h. s .pre .before h .0))
 
@@ -81,12 +64,7 @@ backup-into-spec =
     sub-beside-into
     shared-slice-read-beside-into
     beside-into-requires
-    copy-into-requires
-    add-end
-    add-beside-into
-    sub-beside-into-2
-    shared-slice-read-beside-into-2
     has-right-requires
-    beside-into-requires-2
+    row-into-requires
     same-length
     returns)

@@ -80,21 +80,18 @@ returns-6 c =
 room : (c : tie.Else6) → target (c .before .before .before .before .before .before .before) ≡ true
 room c = sym (c .before .room .ensures) ∙ not-false (c .before .room .result) (c .if6 .left)
 
-add-if7 : tie.Need-add-if7
-add-if7 c = search needs
-
-rem-if7 : tie.Need-rem-if7
-rem-if7 c = search needs
+left-over-requires : tie.Need-left-over-requires
+left-over-requires c κs = search needs
 
 returns-7 : tie.Need-returns-7
 returns-7 c =
-    let a = c .before .before .before .before .before .before .before .before .args in
-    rw (entered (c .before .before .before), room (c .before), ne-eqb (a .w % (a .ss-hor + 1)) 0 (c .if7 .taken))
+    let a = c .before .before .before .before .before .before .before .before .before .args in
+    rw (entered (c .before .before .before .before), room (c .before .before), ne-eqb (a .w % (a .ss-hor + 1)) 0 (rw (c .before .left-over .ensures) at (c .if7 .taken)))
 
-divided : (c : tie.Else7) → status (c .before .before .before .before .before .before .before .before) ≡ outsideUnless (lower (c .before .before .before .before .before .before .before .before) && left (c .before .before .before .before .before .before .before .before))
+divided : (c : tie.Else7) → status (c .before .before .before .before .before .before .before .before .before) ≡ outsideUnless (lower (c .before .before .before .before .before .before .before .before .before) && left (c .before .before .before .before .before .before .before .before .before))
 divided c =
-    let a = c .before .before .before .before .before .before .before .before .args in
-    rw (entered (c .before .before .before), room (c .before), eq-eqb (a .w % (a .ss-hor + 1)) 0 (c .if7 .left))
+    let a = c .before .before .before .before .before .before .before .before .before .args in
+    rw (entered (c .before .before .before .before), room (c .before .before), eq-eqb (a .w % (a .ss-hor + 1)) 0 (sym (c .before .left-over .ensures) ∙ c .if7 .left))
 
 lower-at-requires : tie.Need-lower-at-requires
 lower-at-requires c κs = search needs
@@ -107,20 +104,20 @@ beside-of-requires c κs = search needs
 
 add-width : tie.Need-add-width
 add-width c =
-    let a = c .before .before .before .before .before .before .before .before .before .before .before .args in
-    let r = leb-true (a .o + a .w + 4) (a .dst) (room (c .before .before .before .before)) in
+    let a = c .before .before .before .before .before .before .before .before .before .before .before .before .args in
+    let r = leb-true (a .o + a .w + 4) (a .dst) (room (c .before .before .before .before .before)) in
     omega (arith, c .beside-of .ensures, beside-inside (c .before .has-right .result) 4 4 (λ _. le-refl 4))
 
 room-requires-2 : tie.Need-room-requires-2
 room-requires-2 c κs = search needs
 
 -- what the second test of room finds
-found : (c : tie.After-room2) → c .room2 .result ≡ lower (c .before .before .before .before .before .before .before .before .before .before .before .before)
+found : (c : tie.After-room2) → c .room2 .result ≡ lower (c .before .before .before .before .before .before .before .before .before .before .before .before .before)
 found c = rw (c .before .before .before .lower-at .ensures, c .before .beside-of .ensures, c .before .before .has-right .ensures) at (c .room2 .ensures)
 
 returns-8 : tie.Need-returns-8
 returns-8 c =
-    let r : lower (c .before .before .before .before .before .before .before .before .before .before .before .before .before) ≡ false = sym (found (c .before)) ∙ not-true (c .before .room2 .result) (c .if8 .taken) in
+    let r : lower (c .before .before .before .before .before .before .before .before .before .before .before .before .before .before) ≡ false = sym (found (c .before)) ∙ not-true (c .before .room2 .result) (c .if8 .taken) in
     rw (divided (c .before .before .before .before .before), r)
 
 has-left-requires : tie.Need-has-left-requires
@@ -129,23 +126,23 @@ has-left-requires c κs = search needs
 beside-of-requires-2 : tie.Need-beside-of-requires-2
 beside-of-requires-2 c κs = search needs
 
-read : (c : tie.Else8) → status (c .before .before .before .before .before .before .before .before .before .before .before .before .before) ≡ outsideUnless (left (c .before .before .before .before .before .before .before .before .before .before .before .before .before))
+read : (c : tie.Else8) → status (c .before .before .before .before .before .before .before .before .before .before .before .before .before .before) ≡ outsideUnless (left (c .before .before .before .before .before .before .before .before .before .before .before .before .before .before))
 read c =
-    let r : lower (c .before .before .before .before .before .before .before .before .before .before .before .before .before) ≡ true = sym (found (c .before)) ∙ not-false (c .before .room2 .result) (c .if8 .left) in
+    let r : lower (c .before .before .before .before .before .before .before .before .before .before .before .before .before .before) ≡ true = sym (found (c .before)) ∙ not-false (c .before .room2 .result) (c .if8 .left) in
     rw (divided (c .before .before .before .before .before), r)
 
 -- how many samples stand before the row
-before-row : (c : tie.After-beside-of2) → c .beside-of2 .result ≡ beside (hasLeft (c .before .before .before .before .before .before .before .before .before .before .before .before .before .before .before .args .edges)) 4
+before-row : (c : tie.After-beside-of2) → c .beside-of2 .result ≡ beside (hasLeft (c .before .before .before .before .before .before .before .before .before .before .before .before .before .before .before .before .args .edges)) 4
 before-row c = rw (c .before .has-left .ensures) at (c .beside-of2 .ensures)
 
 returns-9 : tie.Need-returns-9
 returns-9 c =
-    let a = c .before .before .before .before .before .before .before .before .before .before .before .before .before .before .before .before .args in
+    let a = c .before .before .before .before .before .before .before .before .before .before .before .before .before .before .before .before .before .args in
     rw (read (c .before .before .before), lt-leb (beside (hasLeft (a .edges)) 4) (a .src-o) (rw (before-row (c .before)) at (c .if9 .taken)))
 
 returns-10 : tie.Need-returns-10
 returns-10 c =
-    let a = c .before .before .before .before .before .before .before .before .before .before .before .before .before .before .before .before .args in
+    let a = c .before .before .before .before .before .before .before .before .before .before .before .before .before .before .before .before .before .args in
     rw (read (c .before .before .before), le-leb (beside (hasLeft (a .edges)) 4) (a .src-o) (rw (before-row (c .before)) at (c .if9 .left)))
 
 pub luma-status-spec : {M : Type 1} → statement M
@@ -159,8 +156,7 @@ luma-status-spec =
     returns-5
     room-requires
     returns-6
-    add-if7
-    rem-if7
+    left-over-requires
     returns-7
     lower-at-requires
     has-right-requires

@@ -1,6 +1,7 @@
 -- `paused::restore_paused` meets its contract: demand 3 at the history of its calls (Histories). Assumes nothing.
 use mathlib.Core.Path.{refl, sym, _∙_}
-use Rattle.units.specs.Luma.{numbersY, lumaLent}
+use Rattle.units.specs.Openings.{numbersY}
+use Rattle.units.specs.Lent.{lumaLent}
 use Rattle.paused.proofs.Histories.{paused-whole, early-size}
 use borrow.Author.Needs.{needs}
 use Rattle.paused.proofs.restore_paused.Statement.{statement}

@@ -1,13 +1,5 @@
--- `units::open_y` meets its contract: the status, and the state that it stands for. Assumes nothing.
-use mathlib.Core.Path.{refl, sym, _∙_, ap}
-use native.Mathlib.Omega.{arith}
-use Rattle.definition.specs.Units.{luma}
-use Rattle.definition.specs.Refusals.{sizesOf, unitStatus}
-use Rattle.model.specs.Fine.{fine}
-use Rattle.refusals.specs.Given.{givenOf}
-use Rattle.units.specs.Luma.{lumaLent, numbersY}
-use Rattle.units.proofs.Admissions.{rows-lie}
-use Rattle.units.proofs.Openings.{begun}
+-- `units::open_y` meets its contract: the opening of its kind. Assumes nothing.
+use lib.IntN.{pos}
 use borrow.Author.Needs.{needs}
 use Rattle.units.proofs.open_y.Statement.{statement}
 use Rattle.units.proofs.open_y.Tie as tie
@@ -15,27 +7,44 @@ use Rattle.units.proofs.open_y.Tie as tie
 numbers-requires : tie.Need-numbers-requires
 numbers-requires c κs = search needs
 
-sizes-requires : tie.Need-sizes-requires
-sizes-requires c κs = search needs
+slice-aggregate-open : tie.Need-slice-aggregate-open
+slice-aggregate-open c = search needs
 
-unit-status-requires : tie.Need-unit-status-requires
-unit-status-requires c κs = search needs
+slice-aggregate-open-2 : tie.Need-slice-aggregate-open-2
+slice-aggregate-open-2 c = search needs
+
+slice-aggregate-open-3 : tie.Need-slice-aggregate-open-3
+slice-aggregate-open-3 c = search needs
+
+slice-aggregate-open-4 : tie.Need-slice-aggregate-open-4
+slice-aggregate-open-4 c = search needs
+
+slice-aggregate-open-5 : tie.Need-slice-aggregate-open-5
+slice-aggregate-open-5 c = search needs
+
+slice-aggregate-open-6 : tie.Need-slice-aggregate-open-6
+slice-aggregate-open-6 c = search needs
+
+slice-aggregate-open-7 : tie.Need-slice-aggregate-open-7
+slice-aggregate-open-7 c = search needs
 
 open-requires : tie.Need-open-requires
-open-requires c κs =
-    let a = c .before .before .before .before .before .before .before .before .args in
-    let g = givenOf (c .before .before .numbers .result) in (
-      (omega arith, omega arith),
-      λ e.
-          rows-lie luma g (lumaLent (a .left .now) (a .lpf .now) (a .lpf-bottom .now) (a .filter .now) (a .skip .now)) (a .p .now)
-          (fine luma g (sizesOf luma (lumaLent (a .left .now) (a .lpf .now) (a .lpf-bottom .now) (a .filter .now) (a .skip .now)) (a .p .now)) (sym (c .unit-status .ensures ∙ ap (unitStatus luma g) (c .before .sizes .ensures)) ∙ e)),
-    )
+open-requires c κs = search needs
 
 returns : tie.Need-returns
-returns c =
-    let a = c .before .before .before .before .before .before .before .before .before .args in
-    begun luma (lumaLent (a .left .now) (a .lpf .now) (a .lpf-bottom .now) (a .filter .now) (a .skip .now)) refl (numbersY (a .w) (a .h) (a .edges) (a .stride) (a .p-off) (a .lpf-off) (a .lpf-bottom-off)) (a .p .now) (c .before .before .before .numbers .ensures)
-    (c .before .unit-status .ensures ∙ ap (unitStatus luma (givenOf (c .before .before .before .numbers .result))) (c .before .before .sizes .ensures)) (c .«open» .ensures)
+returns c = rw (c .before .before .before .before .before .before .before .before .numbers .ensures) at (c .«open» .ensures (pos 0))
 
 pub open-y-spec : {M : Type 1} → statement M
-open-y-spec = tie.close (tie.spec numbers-requires sizes-requires unit-status-requires open-requires returns)
+open-y-spec =
+    tie.close
+    (tie.spec
+    numbers-requires
+    slice-aggregate-open
+    slice-aggregate-open-2
+    slice-aggregate-open-3
+    slice-aggregate-open-4
+    slice-aggregate-open-5
+    slice-aggregate-open-6
+    slice-aggregate-open-7
+    open-requires
+    returns)

@@ -4,8 +4,8 @@ use mir.Val.{toZ, ofZ}
 use mir.Facts.{toZ-ofZ}
 use mathlib.Core.Path.{_≡_, refl}
 use Rattle.definition.specs.Units.{user}
-use Rattle.units.specs.Luma.{numbersY}
-use Rattle.units.specs.Classed.{classedLent}
+use Rattle.units.specs.Openings.{numbersY}
+use Rattle.units.specs.Lent.{classedLent}
 use Rattle.units.specs.ClassedHistory.{user-history}
 use Rattle.whole.specs.Whole.{whole-at}
 use borrow.Author.Needs.{needs}

@@ -1,7 +1,8 @@
 -- `whole::ns_wiener_single_uv_8bpc` meets its contract: demand 2, by the theorem of demand 3 at the history of one advance. Assumes nothing.
 use mathlib.Core.Path.{refl}
 use Rattle.definition.specs.Units.{chroma}
-use Rattle.units.specs.Chroma.{chromaLent, numbersC}
+use Rattle.units.specs.Lent.{chromaLent}
+use Rattle.units.specs.Openings.{numbersC}
 use Rattle.units.specs.ChromaHistory.{chroma-history}
 use Rattle.whole.specs.Whole.{whole-at, whole-none}
 use borrow.Author.Needs.{needs}

@@ -1,7 +1,8 @@
 -- `whole::ns_wiener_single_y_8bpc` meets its contract: demand 2, by the theorem of demand 3 at the history of one advance. Assumes nothing.
 use mathlib.Core.Path.{refl}
 use Rattle.definition.specs.Units.{luma}
-use Rattle.units.specs.Luma.{numbersY, lumaLent}
+use Rattle.units.specs.Openings.{numbersY}
+use Rattle.units.specs.Lent.{lumaLent}
 use Rattle.units.specs.LumaHistory.{luma-history}
 use Rattle.whole.specs.Whole.{whole-at}
 use borrow.Author.Needs.{needs}

@@ -1,14 +1,14 @@
--- `units::chroma::columns` meets its contract: 2 ^ ss is 1 or 2. Assumes nothing.
-use mathlib.Core.Path.{_≡_}
+-- `chroma::columns` meets its contract. Assumes nothing.
 use native.Mathlib.Omega.{arith}
+use mathlib.Core.Path.{_≡_}
 use Rattle.units.proofs.chroma.columns.Statement.{statement}
 use Rattle.units.proofs.chroma.columns.Tie as tie
 
 returns : tie.Need-returns
-returns c = let e : c .before .args .ss-hor ≡ 0 = omega arith in rw e
+returns c = (omega arith, λ h. rw (c .if1 .taken))
 
 returns-2 : tie.Need-returns-2
-returns-2 c = let e : c .before .args .ss-hor ≡ 1 = omega arith in rw e
+returns-2 c = (omega arith, λ h. let e : c .before .args .ss-hor ≡ 1 = omega (arith, h, c .if1 .left) in rw e)
 
 pub columns-spec : {M : Type 1} → statement M
 columns-spec = tie.close (tie.spec returns returns-2)

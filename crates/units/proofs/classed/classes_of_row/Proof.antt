@@ -15,22 +15,22 @@ use Rattle.features.specs.Features.{featureAt}
 use Rattle.laws.proofs.Lists.{sets-more, tab-cong}
 use Rattle.refusals.specs.Given.{givenOf}
 use Rattle.units.specs.Windows.{ring}
-use Rattle.units.specs.Classed.{classLent}
+use Rattle.units.specs.Lent.{classLent}
 use Rattle.units.specs.Operations.{classAt}
 use Rattle.units.proofs.Classes.{classBy, class-is, feature-at}
 use Rattle.units.proofs.classed.classes_of_row.Statement.{statement}
 use Rattle.units.proofs.classed.classes_of_row.Tie as tie
 
 abbrev Inv-loop : tie.InvT-loop
-Inv-loop done rows indices noskip base-q map subclass n by bh vertical falling rising out₀ bx₀ out bx =
+Inv-loop done rows indices noskip base-q map subclass classes₀ n by bh vertical falling rising bx₀ classes bx =
     (bx ≤ n) ×
-    (out ≡ sets out₀ 0 (tab bx (classBy rows indices noskip (toZ w32 base-q) map subclass by bh))) ×
+    (classes ≡ sets classes₀ 0 (tab bx (classBy rows indices noskip (toZ w32 base-q) map subclass by bh))) ×
     ((i : ℕ) → i < n → getD vertical i 0 ≡ featureAt rows indices (pos 0) i) ×
     ((i : ℕ) → i < n → getD falling i 0 ≡ featureAt rows indices (pos 1) i) ×
     ((i : ℕ) → i < n → getD rising i 0 ≡ featureAt rows indices (negsuc 0) i)
 
 abbrev μ-loop : tie.MeasureT-loop
-μ-loop done rows indices noskip base-q map subclass n by bh vertical falling rising out₀ bx₀ out bx = n - bx
+μ-loop done rows indices noskip base-q map subclass classes₀ n by bh vertical falling rising bx₀ classes bx = n - bx
 
 row-features-requires : tie.Need-row-features-requires Inv-loop μ-loop
 row-features-requires c κs = tt
@@ -74,8 +74,8 @@ class-of-requires c κs =
     let h = s .pre .0 .1 in
     ((omega (arith, w .high), omega (arith, h .fours), omega (arith, h .high), s .pre .0 .3), s .pre .1 .1)
 
-array-write-out : tie.Need-array-write-out Inv-loop μ-loop
-array-write-out c = omega (arith, c .before .before .before .before .before .before .before .before .before .before .before .before .before .pre .0 .0 .high)
+element-write-classes : tie.Need-element-write-classes Inv-loop μ-loop
+element-write-classes c = omega (arith, c .before .before .before .before .before .before .before .before .before .before .before .before .before .pre .0 .0 .high)
 
 add-bx : tie.Need-add-bx Inv-loop μ-loop
 add-bx c = omega (arith, c .before .before .before .before .before .before .before .before .before .before .before .before .before .pre .0 .0 .high)
@@ -96,7 +96,7 @@ loop-again c =
     (λ i.
     getD (a .subclass .now)
     (getD (a .map .now) (indexOf (v i) (d i) (r i) (toZ w32 (ofZ w32 (a .base-q))) (7 * skipSum (a .noskip .now) (a .g .h / 4) (l .bx) (a .done / 4))) 0) 0) in
-    (omega arith, rw (l .inv .1, e) (rw (zero-add (l .bx)) at (sets-more (l .bx) (a .classes) 0 f)), l .inv .2, l .inv .3, l .inv .4)
+    (omega arith, rw (l .inv .1, e) (rw (zero-add (l .bx)) at (sets-more (l .bx) (a .classes .now) 0 f)), l .inv .2, l .inv .3, l .inv .4)
 
 returns : tie.Need-returns Inv-loop μ-loop
 returns c =
@@ -107,8 +107,8 @@ returns c =
     let q-is : toZ w32 (ofZ w32 (a .base-q)) ≡ a .base-q = toZ-ofZ (s .fits .base-q) in
     let f : ℤ → ℕ → ℕ = λ q. classBy (a .rows .now) (a .indices .now) (a .noskip .now) q (a .map .now) (a .subclass .now) (a .done / 4) (a .g .h / 4) in
     l .inv .1 ∙
-    (λ i. sets (a .classes) 0 (tab (e i) (f (q-is i)))) ∙
-    ap (sets (a .classes) 0)
+    (λ i. sets (a .classes .now) 0 (tab (e i) (f (q-is i)))) ∙
+    ap (sets (a .classes .now) 0)
     (tab-cong (a .g .w / 4) (f (a .base-q))
     (classAt (givenOf (a .g)) (classLent (a .noskip .now) (a .map .now) (a .subclass .now) (a .base-q)) (ring (a .rows .now) (a .indices .now) 0) (a .done))
     (λ bx h. class-is (givenOf (a .g)) (a .rows .now) (a .indices .now) (a .noskip .now) (a .map .now) (a .subclass .now) (a .base-q) 0 (a .done) bx))
@@ -128,7 +128,7 @@ classes-of-row-spec =
     mul-class-of-3
     array-read-class-of-3
     class-of-requires
-    array-write-out
+    element-write-classes
     add-bx
     loop-less
     loop-again

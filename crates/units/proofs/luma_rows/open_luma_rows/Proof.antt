@@ -9,7 +9,7 @@ use Rattle.model.specs.Rows.{firstRow}
 use Rattle.model.specs.Opening.{filledRows}
 use Rattle.model.specs.LumaRows.{lumaPadRow}
 use Rattle.refusals.specs.Given.{givenOf}
-use Rattle.units.specs.Chroma.{lumaRowsLent}
+use Rattle.units.specs.Lent.{lumaRowsLent}
 use Rattle.units.proofs.TwoLists.{front-size, behind-none, behind-more}
 use Rattle.units.proofs.luma_rows.open_luma_rows.Statement.{statement}
 use Rattle.units.proofs.luma_rows.open_luma_rows.Tie as tie

@@ -1,21 +1,31 @@
--- `opening::first_state` meets its contract: the rows and the indices of the opening. Assumes nothing.
-use Rattle.units.specs.Windows.{rowsLent}
-use Rattle.units.proofs.Openings.{first-is}
+-- `opening::first_state` meets its contract: made of the rows and the indices. Assumes nothing.
+use mathlib.Core.List.{[]}
+use Rattle.units.specs.Lent.{chromaLent}
+use Rattle.units.proofs.Openings.{first-state}
 use borrow.Author.Needs.{needs}
 use Rattle.units.proofs.opening.first_state.Statement.{statement}
 use Rattle.units.proofs.opening.first_state.Tie as tie
 
-open-rows-requires : tie.Need-open-rows-requires
-open-rows-requires c κs = search needs
+border-of-requires : tie.Need-border-of-requires
+border-of-requires c κs = search needs
 
-open-indices-requires : tie.Need-open-indices-requires
-open-indices-requires c κs = search needs
+first-indices-requires : tie.Need-first-indices-requires
+first-indices-requires c κs = search needs
+
+first-rows-requires : tie.Need-first-rows-requires
+first-rows-requires c κs = search needs
+
+add-t13 : tie.Need-add-t13
+add-t13 c = search needs
 
 returns : tie.Need-returns
 returns c =
-    let s = c .before .before .before .before .before .before in
+    let s = c .before .before .before .before .before .before .before .before .before .before in
     let a = s .args in
-    first-is (a .op) (s .pre .0 .0) (s .pre .0 .1) (a .g) (rowsLent (a .left .now) (a .top .now) (a .bottom .now)) (a .p .now) (c .before .open-rows .ensures) (c .open-indices .ensures)
+    let l = chromaLent (a .left .now) (a .top .now) (a .bottom .now) [] (a .luma .now) (a .luma-top .now) (a .luma-bottom .now) [] in
+    first-state (a .op) (s .pre .0 .0) (s .pre .0 .1) (a .g) l (a .p .now) (c .before .before .border-of .ensures .0) (c .before .first-indices .ensures l (a .p .now)) (c .first-rows .ensures)
 
 pub first-state-spec : {M : Type 1} → statement M
-first-state-spec = tie.close (tie.spec open-rows-requires open-indices-requires returns)
+first-state-spec =
+    tie.close
+    (tie.spec border-of-requires first-indices-requires first-rows-requires add-t13 returns)

@@ -1,26 +1,61 @@
--- `opening::open` meets its contract: by the status. Assumes nothing.
-use mathlib.Core.Path.{refl, _∙_}
+-- `opening::open` meets its contract: declined, or the state before the first row. Assumes nothing.
+use mathlib.Core.Path.{sym, _∙_, ap}
+use lib.IntN.{ℤ, pos}
+use Rattle.definition.specs.Units.{Lent}
+use Rattle.definition.specs.Refusals.{sizesOf, unitStatus}
+use Rattle.model.specs.Fine.{fine}
 use Rattle.edges.specs.Operations.{operationOf}
-use Rattle.units.specs.Windows.{rowsLent}
-use Rattle.units.specs.Openings.{openState}
-use Rattle.units.proofs.Openings.{none-unless}
+use Rattle.refusals.specs.Given.{givenOf}
+use Rattle.units.specs.Lent.{unitLent}
+use Rattle.units.proofs.Fits.{fit}
+use Rattle.units.proofs.Openings.{begun-none, begun-first}
 use borrow.Author.Needs.{needs}
 use Rattle.units.proofs.opening.open.Statement.{statement}
 use Rattle.units.proofs.opening.open.Tie as tie
+
+-- all that is lent, but for the quantizer
+abbrev lent : tie.Start → ℤ → Lent
+lent s q =
+    let a = s .args in
+    unitLent (operationOf (a .op)) (a .left .now) (a .top .now) (a .bottom .now) (a .filters .now) (a .wide .now) (a .map .now) (a .subclass .now) (a .noskip .now) q
+    (a .luma .now) (a .luma-top .now) (a .luma-bottom .now) (a .skip .now)
+
+sizes-requires : tie.Need-sizes-requires
+sizes-requires c κs = search needs
+
+unit-status-requires : tie.Need-unit-status-requires
+unit-status-requires c κs = search needs
 
 none-requires : tie.Need-none-requires
 none-requires c κs = search needs
 
 returns : tie.Need-returns
 returns c =
-    let a = c .before .before .before .before .before .before .args in
-    (refl, c .none .ensures ∙ none-unless (a .status) (openState (operationOf (a .op)) (a .g) (rowsLent (a .left .now) (a .top .now) (a .bottom .now)) (a .p .now)) (c .before .if1 .taken))
+    let s = c .before .before .before .before .before .before .before .before .before .before .before .before .before .before .before in
+    let a = s .args in
+    λ q. begun-none (operationOf (a .op)) (a .g) (lent s q) (a .p .now) (c .before .before .unit-status .ensures ∙ ap (unitStatus (operationOf (a .op)) (givenOf (a .g))) (c .before .before .before .sizes .ensures q)) (c .before .if1 .taken) (c .none .ensures)
 
 first-state-requires : tie.Need-first-state-requires
-first-state-requires c κs = let s = c .before .before .before .before .before in (s .pre .0, s .pre .1 (c .if1 .left))
+first-state-requires c κs =
+    let s = c .before .before .before .before .before .before .before .before .before .before .before .before .before .before in
+    let a = s .args in
+    let l = lent s (pos 0) in
+    let f = fit (operationOf (a .op)) (a .g) l (a .p .now) (fine (operationOf (a .op)) (givenOf (a .g)) (sizesOf (operationOf (a .op)) l (a .p .now)) (sym (c .before .unit-status .ensures ∙ ap (unitStatus (operationOf (a .op)) (givenOf (a .g))) (c .before .before .sizes .ensures (pos 0))) ∙ c .if1 .left)) in
+    (s .pre, (f .lie, λ e. f .luma (rw e)))
 
 returns-2 : tie.Need-returns-2
-returns-2 c = (refl, rw (c .before .if1 .left) (c .first-state .ensures))
+returns-2 c =
+    let s = c .before .before .before .before .before .before .before .before .before .before .before .before .before .before .before in
+    let a = s .args in
+    λ q. begun-first (operationOf (a .op)) (a .g) (lent s q) (a .p .now) (sym (c .before .before .unit-status .ensures ∙ ap (unitStatus (operationOf (a .op)) (givenOf (a .g))) (c .before .before .before .sizes .ensures q)) ∙ c .before .if1 .left) (c .first-state .ensures)
 
 pub open-spec : {M : Type 1} → statement M
-open-spec = tie.close (tie.spec none-requires returns first-state-requires returns-2)
+open-spec =
+    tie.close
+    (tie.spec
+    sizes-requires
+    unit-status-requires
+    none-requires
+    returns
+    first-state-requires
+    returns-2)

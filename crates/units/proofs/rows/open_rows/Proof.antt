@@ -9,7 +9,7 @@ use Rattle.model.specs.Rows.{first-low}
 use Rattle.model.specs.Opening.{filled}
 use Rattle.edges.specs.Operations.{operationOf}
 use Rattle.refusals.specs.Given.{givenOf}
-use Rattle.units.specs.Windows.{rowsLent}
+use Rattle.units.specs.Lent.{rowsLent}
 use Rattle.edges.proofs.Borders.{border-high}
 use Rattle.units.proofs.Rings.{filled-none, filled-more}
 use Rattle.units.proofs.rows.open_rows.Statement.{statement}

@@ -1,0 +1,62 @@
+-- `restore::thirteen` meets its contract: after k turns the first k numbers are copied. Assumes nothing.
+use mathlib.Core.Path.{refl}
+use Prim.Native.Nat.{_-_}
+use native.Mathlib.Omega.{arith}
+use mir.Syntax.{w16}
+use mir.Facts.{toZ-ofZ}
+use Rattle.units.proofs.Copies.{Copied, none-copied, one-copied, all-copied}
+use Rattle.units.proofs.restore.thirteen.Statement.{statement}
+use Rattle.units.proofs.restore.thirteen.Tie as tie
+
+abbrev Inv-loop : tie.InvT-loop
+Inv-loop filters at set₀ k₀ set k = Copied 13 filters at k set
+
+abbrev μ-loop : tie.MeasureT-loop
+μ-loop filters at set₀ k₀ set k = 13 - k
+
+loop-holds : tie.Need-loop-holds Inv-loop μ-loop
+loop-holds c = none-copied 13 (c .args .filters .now) (c .args .at) _ (c .pre) refl
+
+add-set : tie.Need-add-set Inv-loop μ-loop
+add-set c = let s = c .before .before in omega (arith, s .pre, s .good .0 .0)
+
+mul-set : tie.Need-mul-set Inv-loop μ-loop
+mul-set c = omega arith
+
+shared-slice-copy-out-set : tie.Need-shared-slice-copy-out-set Inv-loop μ-loop
+shared-slice-copy-out-set c = omega (arith, c .before .loop .inv .room)
+
+mul-set-2 : tie.Need-mul-set-2 Inv-loop μ-loop
+mul-set-2 c = omega arith
+
+array-set-from-set : tie.Need-array-set-from-set Inv-loop μ-loop
+array-set-from-set c = omega (arith, c .before .before .loop .inv .same)
+
+add-k : tie.Need-add-k Inv-loop μ-loop
+add-k c = omega arith
+
+loop-less : tie.Need-loop-less Inv-loop μ-loop
+loop-less c = omega arith
+
+loop-again : tie.Need-loop-again Inv-loop μ-loop
+loop-again c = let l = c .before .before .loop in one-copied _ (l .inv) (c .before .loop-test .taken) (toZ-ofZ {w = w16} (record { sfits = c .set .given }))
+
+returns : tie.Need-returns Inv-loop μ-loop
+returns c = all-copied (c .before .loop .inv) (c .loop-test .left)
+
+pub thirteen-spec : {M : Type 1} → statement M
+thirteen-spec =
+    tie.close
+    (tie.spec
+    Inv-loop
+    μ-loop
+    loop-holds
+    add-set
+    mul-set
+    shared-slice-copy-out-set
+    mul-set-2
+    array-set-from-set
+    add-k
+    loop-less
+    loop-again
+    returns)
