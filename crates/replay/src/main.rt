@@ -10,44 +10,15 @@ mod restore;
 use lists::Unit;
 use whole::Restored;
 
-fn run_chroma(
-    u: Unit,
-    p: &mut [u8],
-    left: &[u8],
-    top: &[u8],
-    bottom: &[u8],
-    filter: &[i8],
-    pool: &[u8],
-    skip: &[u16],
-) -> Restored {
-    let l = lists::luma_of(u);
-    let luma = lists::luma_part(
-        pool,
-        lists::place(u.k, 34),
-        l,
-        l.off,
-        lists::luma_rows(u, l),
-    );
-    let rows = lists::luma_top_rows(u, l);
-    let luma_top = lists::luma_part(pool, lists::place(u.k, 35), l, l.top_off, rows);
-    let rows = lists::bottom_rows(u);
-    let luma_bottom = lists::luma_part(pool, lists::place(u.k, 36), l, l.bottom_off, rows);
-    restore::chroma(
-        u,
-        l,
-        p,
-        left,
-        top,
-        bottom,
-        filter,
-        luma,
-        luma_top,
-        luma_bottom,
-        skip,
-    )
+// A luma unit has the first 16 numbers of a set, a chroma unit the 18 of one.
+fn numbers_lent(op: usize, all: usize) -> usize {
+    match op {
+        1 => 16,
+        4 => 18,
+        _ => all,
+    }
 }
 
-// A luma unit has the first 16 numbers of a set, a chroma unit the 18 of one.
 fn run(
     u: Unit,
     p: &mut [u8],
@@ -62,47 +33,36 @@ fn run(
     noskip: &[u16],
     skip: &[u16],
 ) -> Restored {
-    let q = numbers::quantizer(u.k);
-    let op = u.op;
-    match op {
-        1 => restore::luma(u, p, left, top, bottom, lists::first(narrow, 16), skip),
-        2 => restore::user(
-            u,
-            p,
-            left,
-            top,
-            bottom,
-            narrow,
-            map,
-            subclass,
-            noskip,
-            q,
-            skip,
-        ),
-        3 => restore::pretrained(
-            u,
-            p,
-            left,
-            top,
-            bottom,
-            wide,
-            map,
-            subclass,
-            noskip,
-            q,
-            skip,
-        ),
-        _ => run_chroma(
-            u,
-            p,
-            left,
-            top,
-            bottom,
-            lists::first(narrow, 18),
-            pool,
-            skip,
-        ),
-    }
+    let l = lists::luma_of(u);
+    let luma = lists::luma_part(
+        pool,
+        lists::place(u.k, 34),
+        l,
+        l.off,
+        lists::luma_rows(u, l),
+    );
+    let rows = lists::luma_top_rows(u, l);
+    let luma_top = lists::luma_part(pool, lists::place(u.k, 35), l, l.top_off, rows);
+    let rows = lists::bottom_rows(u);
+    let luma_bottom = lists::luma_part(pool, lists::place(u.k, 36), l, l.bottom_off, rows);
+    restore::restored(
+        u,
+        l,
+        p,
+        left,
+        top,
+        bottom,
+        lists::first(narrow, numbers_lent(u.op, narrow.len())),
+        wide,
+        map,
+        subclass,
+        noskip,
+        numbers::quantizer(u.k),
+        luma,
+        luma_top,
+        luma_bottom,
+        skip,
+    )
 }
 
 fn print_number(name: &[u8], n: usize) {

@@ -1,21 +1,19 @@
--- `replay::restore::chroma_in_advances` meets its contract: each advance keeps the length of the plane. Assumes nothing.
+-- `replay::restore::by_advances` meets its contract: each advance keeps the length of the plane. Assumes nothing.
 use Prim.Native.Nat.{_-_, _≤_}
 use mathlib.Core.Path.{_≡_}
 use lib.ListN.{length}
 use native.Mathlib.Omega.{arith}
-use Rattle.replay.proofs.restore.chroma_in_advances.Statement.{statement}
-use Rattle.replay.proofs.restore.chroma_in_advances.Tie as tie
+use Rattle.replay.proofs.restore.by_advances.Statement.{statement}
+use Rattle.replay.proofs.restore.by_advances.Tie as tie
 
 abbrev Inv-loop : tie.InvT-loop
-Inv-loop u p₀ left top bottom filter luma luma-top luma-bottom skip s₀ status₀ pieces₀ i₀ p s status pieces i =
-    (i ≤ 8) × (length p ≡ length p₀)
+Inv-loop u p₀ left top bottom narrow wide map subclass noskip q luma luma-top luma-bottom skip s₀ status₀ pieces₀ i₀ p s status pieces i = (i ≤ 8) × (length p ≡ length p₀)
 
 abbrev μ-loop : tie.MeasureT-loop
-μ-loop u p₀ left top bottom filter luma luma-top luma-bottom skip s₀ status₀ pieces₀ i₀ p s status pieces i =
-    8 - i
+μ-loop u p₀ left top bottom narrow wide map subclass noskip q luma luma-top luma-bottom skip s₀ status₀ pieces₀ i₀ p s status pieces i = 8 - i
 
-open-c-requires : tie.Need-open-c-requires Inv-loop μ-loop
-open-c-requires c κs = tt
+open-requires : tie.Need-open-requires Inv-loop μ-loop
+open-requires c κs = tt
 
 loop-holds : tie.Need-loop-holds Inv-loop μ-loop
 loop-holds c = omega arith
@@ -23,8 +21,8 @@ loop-holds c = omega arith
 rows-requires : tie.Need-rows-requires Inv-loop μ-loop
 rows-requires c κs = tt
 
-advance-c-requires : tie.Need-advance-c-requires Inv-loop μ-loop
-advance-c-requires c κs = tt
+advance-requires : tie.Need-advance-requires Inv-loop μ-loop
+advance-requires c κs = tt
 
 first-refusal-requires : tie.Need-first-refusal-requires Inv-loop μ-loop
 first-refusal-requires c κs = tt
@@ -47,16 +45,16 @@ same-length c = omega arith
 returns : tie.Need-returns Inv-loop μ-loop
 returns c = tt
 
-pub chroma-in-advances-spec : {M : Type 1} → statement M
-chroma-in-advances-spec =
+pub by-advances-spec : {M : Type 1} → statement M
+by-advances-spec =
     tie.close
     (tie.spec
     Inv-loop
     μ-loop
-    open-c-requires
+    open-requires
     loop-holds
     rows-requires
-    advance-c-requires
+    advance-requires
     first-refusal-requires
     wrapping-add-usize-requires
     add-i
