@@ -17,7 +17,7 @@ compiler declines (a type, a literal out of range) is `not a program`, and is co
 either it is the same program to every caller, or a contract does not say something.
 
 Definition: a mutant is refused where a crate above it is not proved any more; `not a definition` where it has no types. The crates
-are tried in the order of ABOVE, each over the changed definition and the other libraries as they were (a crate
+are tried in the order of ABOVE, those of NEAREST first, each over the changed definition and the other libraries as they were (a crate
 whose promises are not true any more is itself among those tried), and the first that fails ends it. For a survivor run `rt check` with the change made.
 
 Refused says that the proof at hand does not prove the mutant: a fact that it needs does not follow any more. A mutant that means the
@@ -177,8 +177,11 @@ def program_sites(file, text):
 
 # ---- the definition
 
-ABOVE = ('samples laws vectors intops bounds blocks history model card_reader features padding qval class_index filter refusals units'
+ABOVE = ('samples laws model vectors intops bounds edges blocks history card_reader features padding qval class_index filter refusals units'
          ' whole card_answer paused exports').split()
+# the crates that lean on a file most: they are tried first, behind `samples`
+NEAREST = {'Card': 'card_reader card_answer', 'Refusals': 'model edges refusals', 'ClassIndex': 'qval class_index features model', 'Sample': 'model vectors filter',
+           'Padding': 'model edges padding', 'Blocks': 'blocks vectors', 'Units': 'model vectors', 'Rows': 'blocks features padding', 'Numbers': 'intops qval'}
 RULE = re.compile(r'[()]|"(?:\\.|[^"\\])*"|[^\s();]+|;')
 TURNED = {'ltb': ['leb'], 'leb': ['ltb'], '+': ['-'], '-': ['+'], '*': ['+'], '/': ['%'], '%': ['/'], '+ℤ': ['-ℤ'], '-ℤ': ['+ℤ'], '*ℤ': ['+ℤ'],
           '&&': ['||'], '||': ['&&'], 'min': ['max'], 'true': ['false'], 'false': ['true'], 'not': [''], 'pos': ['negsuc'], 'negsuc': ['pos']}
@@ -405,11 +408,12 @@ def over_old_libraries(folder, crate, seconds):
     return call(words, folder, seconds)
 
 
-def verdict_of_definition(folder, seconds):
+def verdict_of_definition(folder, file, seconds):
     status, said = call(['rt', 'check', 'definition'], folder, seconds)
     if status != 0:
         return 'not a definition', reason(said, folder)
-    for crate in ABOVE:
+    near = NEAREST.get(os.path.splitext(os.path.basename(file))[0], '').split()
+    for crate in ABOVE[:1] + near + [c for c in ABOVE[1:] if c not in near]:
         status, said = over_old_libraries(folder, crate, seconds)
         if status == 1 and re.search(r'^logic=not-proved', said, re.M):
             why = reason(said, folder)
@@ -493,7 +497,7 @@ def main():
             if o.specs:
                 path = os.path.join(folder, batch[0].file)
                 open(path, 'w', encoding='utf-8').write(mutated(texts[batch[0].file], batch[0]))
-                found = [verdict_of_definition(folder, o.seconds)]
+                found = [verdict_of_definition(folder, batch[0].file, o.seconds)]
                 open(path, 'w', encoding='utf-8').write(texts[batch[0].file])
             else:
                 found = verdicts_of_programs(folder, crate, batch, texts, o.seconds)

@@ -62,7 +62,7 @@ pub fn sizes<'a>(
     }
 }
 
-// What a row is restored from: the newest row of each window, and at the start of a block row the classes of its blocks.
+// What a row is restored from: the newest row of each window, and at the start of a block row the classes of its blocks. Filters and masks are named by the contract alone.
 fn taken<'a>(
     op: usize,
     g: Numbers,
