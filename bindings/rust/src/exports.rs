@@ -91,8 +91,8 @@ impl Default for State {
 #[repr(C)]
 #[derive(Clone, Debug, PartialEq, Eq)]
 pub struct Opened {
-    pub status: u8,
     pub state: State,
+    pub status: u8,
 }
 
 /// What an advance answers.

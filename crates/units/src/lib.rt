@@ -30,10 +30,11 @@ pub struct State {
     pub rows: [u8; 1080],
 }
 
+// The state comes first: behind the status it is copied once more where a whole unit is restored.
 #[repr(C)]
 pub struct Opened {
-    pub status: u8,
     pub state: State,
+    pub status: u8,
 }
 
 #[repr(C)]
