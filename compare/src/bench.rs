@@ -19,6 +19,40 @@ pub(crate) const BATCHES: usize = 800;
 /// The rows' first sample.
 const ORIGIN: usize = 6;
 
+/// The two sorts of filters that the port's runs tell apart: all numbers within 21, or not. The last number of a pretrained
+/// set does not count.
+#[derive(Clone, Copy, PartialEq)]
+enum Sort {
+    Small,
+    Large,
+}
+
+impl Sort {
+    /// The sort of some numbers.
+    fn of(numbers: impl IntoIterator<Item = i16>) -> Sort {
+        if numbers.into_iter().all(|c| (-21..=21).contains(&c)) {
+            Sort::Small
+        } else {
+            Sort::Large
+        }
+    }
+
+    fn name(self) -> &'static str {
+        match self {
+            Sort::Small => "small",
+            Sort::Large => "large",
+        }
+    }
+
+    /// A number of a filter whose greatest is `greatest`.
+    fn number(self, r: &mut Random, greatest: i64) -> i16 {
+        match self {
+            Sort::Small => r.within(-12, 12) as i16,
+            Sort::Large => r.within(-greatest - 1, greatest) as i16,
+        }
+    }
+}
+
 struct Case {
     rows: Vec<u8>,
     chroma_rows: Vec<u8>,
@@ -34,7 +68,7 @@ struct Case {
 
 impl Case {
     /// A case for runs of `n` samples. Rows follow each other in a ring, as they do in a unit.
-    fn random(r: &mut Random, n: usize) -> Case {
+    fn random(r: &mut Random, n: usize, sort: Sort) -> Case {
         let (first, chroma_first) = (r.below(10), r.below(5));
         let any = |r: &mut Random, n: usize| (0..n).map(|_| r.below(256) as u8).collect();
         Case {
@@ -42,13 +76,25 @@ impl Case {
             chroma_rows: any(r, CHROMA_ROWS),
             indices: std::array::from_fn(|i| (first + i) % 10),
             chroma_indices: std::array::from_fn(|i| (chroma_first + i) % 5),
-            ns: std::array::from_fn(|_| r.within(-12, 12) as i8),
-            pc: std::array::from_fn(|i| r.within(-12, 12) as i16 + if i == 12 { 100 } else { 0 }),
-            uv: std::array::from_fn(|_| r.within(-12, 12) as i8),
+            ns: std::array::from_fn(|_| sort.number(r, 127) as i8),
+            pc: std::array::from_fn(|i| match i {
+                12 => r.within(88, 112) as i16,
+                _ => sort.number(r, 32_767),
+            }),
+            uv: std::array::from_fn(|_| sort.number(r, 127) as i8),
             noskip: std::array::from_fn(|_| r.next() as u16),
             q: r.within(0, 6_000) as i32,
             x0: 4 * r.below((64 - n) / 4 + 1),
         }
+    }
+
+    /// The sorts of its three filters.
+    fn sorts(&self) -> [Sort; 3] {
+        [
+            Sort::of(self.ns.map(i16::from)),
+            Sort::of(self.pc[..12].iter().copied()),
+            Sort::of(self.uv.map(i16::from)),
+        ]
     }
 }
 
@@ -87,21 +133,24 @@ fn measure(
 
 pub(crate) fn line(name: &str, n: usize, (rust, port): (f64, f64)) {
     println!(
-        "{name:<22}{n:>6}{rust:>12.1}{port:>12.1}{:>12.3}",
+        "{name:<26}{n:>6}{rust:>12.1}{port:>12.1}{:>12.3}",
         port / rust
     );
 }
 
-fn cases(seed: u64, n: usize) -> Vec<Case> {
+fn cases(seed: u64, n: usize, sort: Sort) -> Vec<Case> {
     let mut r = Random::new(seed);
-    (0..CASES).map(|_| Case::random(&mut r, n)).collect()
+    let drawn: Vec<Case> = (0..CASES).map(|_| Case::random(&mut r, n, sort)).collect();
+    assert!(drawn.iter().flat_map(Case::sorts).all(|s| s == sort));
+    drawn
 }
 
-/// The three filter runs.
-fn filter_runs() {
+/// The three filter runs, by filters of one sort.
+fn filter_runs(sort: Sort) {
     let exec = black_box(ExecContext::new());
+    let title = |name: &str| format!("{name}, {}", sort.name());
     for n in [64, 16, 4] {
-        let cases = cases(n as u64, n);
+        let cases = cases(n as u64, n, sort);
 
         macro_rules! ten_rows {
             ($name:literal, $rust:path, $port:path, $filter:ident) => {
@@ -127,7 +176,7 @@ fn filter_runs() {
                         n,
                     ))
                 };
-                line($name, n, measure(&cases, 1, rust, port));
+                line(&title($name), n, measure(&cases, 1, rust, port));
             };
         }
         ten_rows!(
@@ -171,14 +220,14 @@ fn filter_runs() {
                 );
                 u32::from(status)
             };
-            line(name, n, measure(&cases, 1, rust, port));
+            line(&title(name), n, measure(&cases, 1, rust, port));
         }
     }
 }
 
 /// The paddings of a row of the unit and of a luma row.
 fn paddings() {
-    let cases = cases(7, 64);
+    let cases = cases(7, 64, Sort::Small);
     for w in [64, 16, 4] {
         let rust = |c: &Case, d: &mut [u8]| {
             let src_o = c.indices[0];
@@ -245,7 +294,7 @@ fn paddings() {
 }
 
 fn class_index() {
-    let cases = cases(7, 64);
+    let cases = cases(7, 64, Sort::Small);
     let rust = |c: &Case, _: &mut [u8]| {
         runs::class_index(&c.rows, &c.indices, &c.noskip, c.q, c.indices[1], 3, 16)
     };
@@ -267,10 +316,11 @@ fn class_index() {
 /// The leaves.
 pub(crate) fn run() {
     println!(
-        "{:<22}{:>6}{:>12}{:>12}{:>12}",
+        "{:<26}{:>6}{:>12}{:>12}{:>12}",
         "run", "n", "Rust ns", "port ns", "port/Rust"
     );
-    filter_runs();
+    filter_runs(Sort::Small);
+    filter_runs(Sort::Large);
     paddings();
     class_index();
 }

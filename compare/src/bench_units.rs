@@ -95,7 +95,7 @@ fn units() {
 fn advances() {
     const SIZE: usize = 64;
     println!(
-        "\n{:<22}{:>12}{:>12}{:>12}{:>12}",
+        "\n{:<26}{:>12}{:>12}{:>12}{:>12}",
         "64 by 64", "whole ns", "by rows ns", "rows/whole", "ns a row"
     );
     for (name, units) in bench_units(SIZE) {
@@ -112,7 +112,7 @@ fn advances() {
         );
         let each = (rows - whole) / SIZE as f64;
         println!(
-            "{name:<22}{whole:>12.1}{rows:>12.1}{:>12.3}{each:>12.1}",
+            "{name:<26}{whole:>12.1}{rows:>12.1}{:>12.3}{each:>12.1}",
             rows / whole
         );
     }

@@ -42,20 +42,6 @@ fn masks(r: &mut Random, shape: usize, n: usize) -> Vec<u16> {
         .collect()
 }
 
-/// Filter numbers of `limit`'s type: its least one everywhere, its greatest, zeros, the ends mixed, any, small.
-fn filters(r: &mut Random, shape: usize, n: usize, limit: i64) -> Vec<i64> {
-    (0..n)
-        .map(|_| match shape % 6 {
-            0 => -limit - 1,
-            1 => limit,
-            2 => 0,
-            3 => [-limit - 1, limit, 0][r.below(3)],
-            4 => r.within(-limit - 1, limit),
-            _ => r.within(-12, 12),
-        })
-        .collect()
-}
-
 const QUANTIZERS: [i32; 6] = [0, i32::MIN, i32::MAX, -1, 4_000, 40_000];
 
 fn quantizer(r: &mut Random, k: usize) -> i32 {
@@ -91,12 +77,7 @@ fn units(exec: &ExecContext, r: &mut Random, op: Operation) -> (usize, usize) {
                     let mut u = Unit::spaced(r, op, edges as u8, w, h, lie);
                     u.skip = masks(r, shape, u.skip.len());
                     u.noskip = masks(r, (k / MASKS) % MASKS, u.noskip.len());
-                    let limit = if op == Operation::Pretrained {
-                        32_767
-                    } else {
-                        127
-                    };
-                    u.filters = filters(r, k, u.filters.len(), limit);
+                    u.reshape_filters(r, k);
                     u.q = quantizer(r, k);
                     differ += usize::from(!same_as_rust(exec, &u, differ == 0));
                     k += 1;

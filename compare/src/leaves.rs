@@ -8,7 +8,7 @@ use crate::exec_context::ExecContext;
 use crate::looprestoration::{
     backup_row_8bpc, backup_row_lpf_8bpc, backup_row_luma_8bpc, get_qval_given_tskip,
 };
-use crate::random::Random;
+use crate::random::{FILTER_SHAPES, Random};
 use crate::runs::{self, CHROMA_ROWS, LUMA_ROW, ROW, ROWS};
 use crate::written::Written;
 
@@ -141,9 +141,10 @@ fn run_length(r: &mut Random) -> usize {
 }
 
 fn filter<const N: usize, T: TryFrom<i64>>(r: &mut Random, limit: i64) -> [T; N] {
-    let taps = r.taps(N, limit);
+    let shape = r.below(FILTER_SHAPES);
+    let numbers = r.filter(shape, N, limit);
     std::array::from_fn(|i| {
-        T::try_from(taps[i])
+        T::try_from(numbers[i])
             .ok()
             .expect("a number within its limit")
     })
@@ -182,7 +183,10 @@ fn ns_run(t: &mut Tally, exec: &ExecContext, r: &mut Random) {
 
 fn pc_run(t: &mut Tally, exec: &ExecContext, r: &mut Random) {
     let limit = if r.once_in(2) { 32_767 } else { 127 };
-    let c: [i16; 13] = filter(r, limit);
+    let mut c: [i16; 13] = filter(r, limit);
+    if r.once_in(2) {
+        c[12] = r.next() as i16;
+    }
     let rust = |d: &mut [u8], rows: &[u8], indices: &[usize; 10], col0, c: &[i16; 13], n| {
         runs::pc_run(exec, d, rows, indices, col0, c, n)
     };

@@ -1,3 +1,7 @@
+/// The shapes of a filter's numbers: no divisor of another choice that goes round.
+#[cfg(feature = "linked")]
+pub(crate) const FILTER_SHAPES: usize = 11;
+
 /// Numbers that depend on the seed alone.
 pub(crate) struct Random(u64);
 
@@ -55,6 +59,31 @@ impl Random {
                 0 => self.within(-limit - 1, limit),
                 1 => [-limit - 1, limit, 0][self.below(3)],
                 2 => self.within(-20, 20),
+                _ => self.within(-4, 4) * self.below(2) as i64,
+            })
+            .collect()
+    }
+
+    /// Numbers of one filter in `-limit - 1 ..= limit`, of the shape that is asked for, in turn: the least everywhere, the
+    /// greatest, zeros, these three mixed, any; then all within 12, within 21, within 22, all of size 21, these with one of
+    /// size 22, and few that are not 0. The port sums a filter whose numbers are within 21 in 16 bits, so both ways and the border between them
+    /// are met.
+    #[cfg(feature = "linked")]
+    pub fn filter(&mut self, shape: usize, n: usize, limit: i64) -> Vec<i64> {
+        let one = self.below(n);
+        (0..n)
+            .map(|i| match shape % FILTER_SHAPES {
+                0 => -limit - 1,
+                1 => limit,
+                2 => 0,
+                3 => [-limit - 1, limit, 0][self.below(3)],
+                4 => self.within(-limit - 1, limit),
+                5 => self.within(-12, 12),
+                6 => self.within(-21, 21),
+                7 => self.within(-22, 22),
+                8 => [-21, 21][self.below(2)],
+                9 if i == one => [-22, 22][self.below(2)],
+                9 => [-21, 21][self.below(2)],
                 _ => self.within(-4, 4) * self.below(2) as i64,
             })
             .collect()

@@ -357,6 +357,23 @@ impl Unit {
         lent
     }
 
+    /// Other filters in the place of those that were drawn: each set has the next shape, from `shape` on. The last number of a
+    /// pretrained set is of no tap, and any one at times.
+    #[cfg(feature = "linked")]
+    pub fn reshape_filters(&mut self, r: &mut Random, shape: usize) {
+        let (size, limit) = match self.op {
+            Operation::Luma => (16, 127),
+            Operation::User | Operation::Chroma => (18, 127),
+            Operation::Pretrained => (13, 32_767),
+        };
+        for (k, set) in self.filters.chunks_mut(size).enumerate() {
+            set.copy_from_slice(&r.filter(shape + k, size, limit));
+            if self.op == Operation::Pretrained && r.once_in(2) {
+                set[size - 1] = r.within(-limit - 1, limit);
+            }
+        }
+    }
+
     /// The filters of luma, user and chroma units.
     pub fn narrow(&self) -> Vec<i8> {
         self.filters.iter().map(|&c| c as i8).collect()

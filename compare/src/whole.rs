@@ -95,7 +95,7 @@ fn shorter(r: &mut Random, u: &Unit) -> (Unit, u8) {
     (u, status)
 }
 
-/// A unit of any size and of the edge sets in turn.
+/// A unit of any size, of the edge sets and of the shapes of filters in turn.
 pub(crate) fn draw(r: &mut Random, op: Operation, k: usize) -> Unit {
     let (w, h) = if r.once_in(2) {
         (4 + 4 * r.below(16), 4 + 4 * r.below(16))
@@ -106,7 +106,9 @@ pub(crate) fn draw(r: &mut Random, op: Operation, k: usize) -> Unit {
         room: [4, 4, 4, 100][r.below(4)],
         ..Spacing::default()
     };
-    Unit::spaced(r, op, (k % 64) as u8, w, h, spacing)
+    let mut u = Unit::spaced(r, op, (k % 64) as u8, w, h, spacing);
+    u.reshape_filters(r, k);
+    u
 }
 
 /// `count` units of each operation, every third also with a list that is too short; whether none differs.

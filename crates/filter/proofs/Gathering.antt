@@ -9,12 +9,13 @@ use lib.IntN.{ℤ, pos, negsuc, natAbs, _+ℤ_, _-ℤ_, _*ℤ_}
 use lib.ListN.{length, getD}
 use lib.Seq.{sets}
 use Rattle.definition.specs.Numbers.{sumZ}
-use Rattle.definition.specs.Rows.{tab, chromaLumaFlat}
-use Rattle.definition.specs.Sample.{dyOf, dxOf, centre, nsTap, lumaTap, chromaSum, nsConfigUv, nsConfigUvFromY}
+use Rattle.definition.specs.Rows.{tab, chromaFlat, chromaLumaFlat}
+use Rattle.definition.specs.Sample.{limit8, rounded, dyOf, dxOf, centre, nsTap, lumaTap, chromaSum, chromaSample, nsConfigUv, nsConfigUvFromY}
 use Rattle.laws.proofs.Ints.{before-pos, sub-pos}
-use Rattle.laws.proofs.Lists.{sets-before, sets-in, length-tab, getD-tab}
+use Rattle.laws.proofs.Lists.{sets-before, sets-in, length-tab, getD-tab, tab-cong}
 use Rattle.laws.proofs.Tables.{near-at}
-use Rattle.filter.specs.Gathered.{Gathered, every, compactAt, compactTap, compactSum}
+use Rattle.filter.specs.Runs.{coefficients}
+use Rattle.filter.specs.Gathered.{Gathered, every, compactAt, compactTap, compactSum, compactRun}
 
 -- dy rows from the third of five, and from the eighth of ten indices
 row-place : (dy : ℤ) → natAbs dy ≤ 2 → (natAbs (pos 2 +ℤ dy) < 5) × (5 + natAbs (pos 2 +ℤ dy) ≡ natAbs (pos 7 +ℤ dy))
@@ -80,3 +81,12 @@ module _ (rows indices : List ℕ) (lcol0 first step n : ℕ) (compact : List �
 
   pub gathered-sum : (s : ℤ → ℤ → ℕ) (c : ℕ → ℤ) → compactSum s (compactAt compact (x + 8)) c ≡ chromaSum s own step c
   gathered-sum s c = (λ i. pos (128 * centre s) +ℤ sumZ 6 (nsTap s c nsConfigUv) +ℤ sumZ 12 (λ k. tap-is c k i))
+
+-- so a run over gathered luma is a run over luma itself
+pub gathered-run : (dst rows indices compact : List ℕ) (col0 lcol0 first step n : ℕ) (filter : List ℤ) → Gathered rows indices first step n 5 compact → first + 2 * step ≡ lcol0 →
+    compactRun dst rows indices col0 compact filter n ≡
+    sets dst 0 (tab n (λ x. chromaSample limit8 (chromaFlat rows indices (col0 + x)) (chromaLumaFlat rows indices (lcol0 + x * step)) step (coefficients filter)))
+gathered-run dst rows indices compact col0 lcol0 first step n filter h e =
+    ap (λ (w : List ℕ). sets dst 0 w)
+    (tab-cong n _ _
+    (λ x l. ap (rounded limit8) (gathered-sum rows indices lcol0 first step n compact h e x l (chromaFlat rows indices (col0 + x)) (coefficients filter))))

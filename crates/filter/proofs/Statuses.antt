@@ -11,7 +11,7 @@ use borrow.Author.Tests.{leb-true}
 use Rattle.definition.specs.Refusals.{indicesUpTo}
 use Rattle.laws.proofs.Passes.{both, pass-at, inside}
 use Rattle.filter.specs.Runs.{runStatus, uvStatus, windowInside}
-use Rattle.filter.specs.Windows.{ownInside, Rows, Window, Eight}
+use Rattle.filter.specs.Windows.{ownInside, OwnInside, Turned, Rows, Eight}
 use Rattle.filter.specs.Gathered.{Gatherable}
 
 -- ten indices up to a limit lead to rows that lie inside, where limit + 1 rows do
@@ -45,12 +45,6 @@ module _ (dst rows : ℕ) (indices : List ℕ) (col0 n size limit e : ℕ) (h : 
   pub own-window : (e ≤ col0) × (col0 + n + e ≤ 76)
   own-window = window-room 76 e col0 n (four .1)
 
--- a run over its own rows: the luma and the pretrained one are no more than that
-pub record OwnInside (e dst : ℕ) (rows indices : List ℕ) (col0 n : ℕ) : Type 0 where
-  pub room : n ≤ dst
-  pub windows : (x : ℕ) → x < n → Window 0 76 e rows indices (col0 + x)
-  pub right : col0 + n ≤ 76
-
 own : (dst : ℕ) (rows indices : List ℕ) (col0 n size limit e : ℕ) → 76 * limit + 76 ≤ size → ownInside dst (length rows) indices col0 n size limit e ≡ true → OwnInside e dst rows indices col0 n
 own dst rows indices col0 n size limit e s h =
     let r = own-window dst (length rows) indices col0 n size limit e h in
@@ -58,8 +52,9 @@ own dst rows indices col0 n size limit e s h =
     let up = three dst (length rows) indices col0 n size limit e h .1 in
     record {
       room = own-room dst (length rows) indices col0 n size limit e h;
-      windows = λ x l. record { inside = rows-inside 0 76 limit rows indices (omega (arith, long)) up; left = omega (arith, r .0); right = omega (arith, r .1) };
-      right = omega (arith, r .1);
+      inside = rows-inside 0 76 limit rows indices (omega (arith, long)) up;
+      left = r .0;
+      right = r .1;
     }
 
 pub run-inside : (dst : ℕ) (rows indices : List ℕ) (col0 n : ℕ) → runStatus dst (length rows) indices col0 n ≡ 0 → OwnInside 4 dst rows indices col0 n
@@ -100,8 +95,7 @@ uv-inside dst rows indices col0 lcol0 step n e =
       };
     }
 
--- the eight samples from `at` on, which is where sample x stands, or where the last eight of the rows begin
-pub eight-inside : {e dst : ℕ} {rows indices : List ℕ} {col0 n : ℕ} → OwnInside e dst rows indices col0 n → (x at last : ℕ) → last + 8 + e ≡ 76 → x < n → e ≤ last → at ≡ min (col0 + x) last → Eight e rows indices at
-eight-inside h x at last s l r e =
-    let w = h .windows x l in
-    record { window = λ j k. record { inside = w .inside; left = omega (arith, w .left); right = omega arith } }
+-- the eight samples of a turn
+pub eight-inside : {e dst : ℕ} {rows indices : List ℕ} {col0 n x last at skip m : ℕ} → OwnInside e dst rows indices col0 n → Turned col0 x n last at skip m → last + 8 + e ≡ 76 → e ≤ last → Eight e rows indices at
+eight-inside h t s r =
+    record { window = λ j k. record { inside = h .inside; left = omega (arith, h .left, t .first); right = omega (arith, t .first) } }

@@ -1,13 +1,13 @@
 -- What the taps of the four filters share: where a tap of a table leads, and a sum with one tap more. Assumes nothing.
-use mathlib.Core.Path.{_≡_, _∙_}
+use mathlib.Core.Path.{_≡_, refl, sym, ap, subst, _∙_}
 use mathlib.Core.List.{List, []}
 use Prim.Native.Nat.{ℕ, _+_, _*_, _^_, _≤_, _<_}
 use native.Mathlib.Omega.{arith}
 use lib.Dec.{T}
 use lib.IntN.{ℤ, pos, negℤ, natAbs, _+ℤ_, _-ℤ_, _*ℤ_}
 use lib.Signed.{mag}
-use mir.Syntax.{w8, w32}
-use mir.Val.{SFits, toZ, ofZ}
+use mir.Syntax.{Width, w8, w32}
+use mir.Val.{SFits, toZ, ofZ, hbits}
 use mir.Facts.{toZ-ofZ}
 use Rattle.definition.specs.Sample.{dyOf, dxOf, pairOf, centre, nsTap}
 use Rattle.laws.proofs.Ints.{sfits-abs}
@@ -42,24 +42,37 @@ module _ {W : Type 0} {C : ℤ} {f : ℕ → ℤ} {B D : ℕ} where
   pub started : {s : ℤ} → W → mag s < 2 ^ 31 → (s ≡ C) × (natAbs s ≤ B) → Summed W C f B D 0 (toZ w32 (ofZ w32 s))
   started w ok e = record { window = w; sum = passed ok (begun (e .0) (e .1)) }
 
-  -- the sum that a call gave, as the machine passes it on
+  -- the sum that a call gave, as the machine passes it on in a local of width w
+  pub carried : (w : Width) {k : ℕ} {s : ℤ} → mag s < 2 ^ hbits w → Summed W C f B D k s → Summed W C f B D k (toZ w (ofZ w s))
+  carried w {k} {s} ok h = subst (Summed W C f B D k) (sym (toZ-ofZ {w = w} {z = s} (record { sfits = ok }))) h
+
   pub onward : {k : ℕ} {s : ℤ} → mag s < 2 ^ 31 → Summed W C f B D k s → Summed W C f B D k (toZ w32 (ofZ w32 s))
-  onward ok h = record { window = h .window; sum = passed ok (h .sum) }
+  onward ok h = carried w32 ok h
 
   -- one tap more, by a call that was given what the machine holds of the sum
-  pub stepped : {k : ℕ} {s r : ℤ} → Summed W C f B D k s → SFits w32 s → mag r < 2 ^ 31 →
-      r ≡ toZ w32 (ofZ w32 s) +ℤ f k → natAbs r ≤ natAbs (toZ w32 (ofZ w32 s)) + D → Summed W C f B D (k + 1) (toZ w32 (ofZ w32 r))
-  stepped h fits ok e b =
-      record { window = h .window; sum = passed ok (tapped (h .sum) (rw (toZ-ofZ fits) at e) (rw (toZ-ofZ fits) at b)) }
+  pub stepped : {w : Width} {k : ℕ} {s r : ℤ} → Summed W C f B D k s → SFits w s → mag r < 2 ^ hbits w →
+      r ≡ toZ w (ofZ w s) +ℤ f k → natAbs r ≤ natAbs (toZ w (ofZ w s)) + D → Summed W C f B D (k + 1) (toZ w (ofZ w r))
+  stepped {w} h fits ok e b =
+      carried w ok (record { window = h .window; sum = tapped (h .sum) (rw (toZ-ofZ fits) at e) (rw (toZ-ofZ fits) at b) })
 
--- the luma and the chroma filter's own taps: what the calls of one step gave
+  -- .. which says what it added
+  pub stepped-by : {w : Width} {k : ℕ} {s v r : ℤ} → Summed W C f B D k s → SFits w s → mag r < 2 ^ hbits w → v ≡ f k →
+      (r ≡ toZ w (ofZ w s) +ℤ v) × (natAbs r ≤ natAbs (toZ w (ofZ w s)) + D) → Summed W C f B D (k + 1) (toZ w (ofZ w r))
+  stepped-by {w} {s = s} h fits ok e given = stepped h fits ok (given .0 ∙ ap (λ (t : ℤ). toZ w (ofZ w s) +ℤ t) e) (given .1)
+
+-- the luma and the chroma filter's own taps: a factor and a number as the machine holds them
 module _ (reach : ℕ) (taps : List (List ℤ)) (e : T (near reach [])) (t : T (all (near reach) taps)) (small : reach ≤ 4) where
+  pub ns-tap-is : (c : ℕ → ℤ) {at : ℤ → ℤ → ℕ} {k p m : ℕ} {d z : ℤ} → PairAt at (toZ w8 (ofZ w8 (dyOf taps k))) (toZ w8 (ofZ w8 (dxOf taps k))) p → m ≡ centre at →
+      d ≡ pos p -ℤ pos (2 * m) → z ≡ c k → d *ℤ z ≡ nsTap at c taps k
+  ns-tap-is c {k = k} pair m-is d-is z-is =
+      let p-is = pair-is reach taps e t small k pair in
+      (λ i. d-is i *ℤ z-is i) ∙ (λ i. (pos (p-is i) -ℤ pos (2 * m-is i)) *ℤ c k)
+
+  -- one step of a sum of 32 bits
   pub ns-stepped : (c : ℕ → ℤ) {W : Type 0} {C : ℤ} {at : ℤ → ℤ → ℕ} {B D k : ℕ} {s r : ℤ} {p m : ℕ} →
       Summed W C (nsTap at c taps) B D k s → SFits w32 s → PairAt at (toZ w8 (ofZ w8 (dyOf taps k))) (toZ w8 (ofZ w8 (dxOf taps k))) p → m ≡ centre at →
       mag (c k) < 2 ^ 7 → mag r < 2 ^ 31 →
       (r ≡ toZ w32 (ofZ w32 s) +ℤ (pos p -ℤ pos (2 * m)) *ℤ toZ w8 (ofZ w8 (c k))) × (natAbs r ≤ natAbs (toZ w32 (ofZ w32 s)) + D) →
       Summed W C (nsTap at c taps) B D (k + 1) (toZ w32 (ofZ w32 r))
-  ns-stepped c {k = k} {s = s} h fits pair m-is c-fits ok given =
-      let p-is = pair-is reach taps e t small k pair in
-      let c-is = toZ-ofZ {w = w8} {z = c k} (record { sfits = c-fits }) in
-      stepped h fits ok (given .0 ∙ (λ i. toZ w32 (ofZ w32 s) +ℤ (pos (p-is i) -ℤ pos (2 * m-is i)) *ℤ c-is i)) (given .1)
+  ns-stepped c {k = k} h fits pair m-is c-fits ok given =
+      stepped-by h fits ok (ns-tap-is c {k = k} pair m-is refl (toZ-ofZ {w = w8} {z = c k} (record { sfits = c-fits }))) given

@@ -9,6 +9,7 @@ use lib.ListN.{length, getD, set, length-set}
 use lib.Seq.{sets, length-sets, getD-set-same, getD-set-other}
 use Rattle.definition.specs.Rows.{tab, unlessRefused}
 use Rattle.laws.proofs.Lists.{sets-more, sets-run, tab-cong}
+use Rattle.filter.specs.Windows.{Turned}
 
 -- after x turns of n, d is what was written over d₀; `asked` is what each turn may use
 pub record Writing (asked : Type 0) (f : ℕ → ℕ) (d₀ : List ℕ) (n : ℕ) (d : List ℕ) (x : ℕ) : Type 0 where
@@ -38,11 +39,24 @@ module _ {asked : Type 0} {f : ℕ → ℕ} {d₀ : List ℕ} {n : ℕ} {d : Lis
             rw (h .is) (rw (zero-add x) at (sets-run m x d₀ 0 f));
       }
 
-  -- at the end, under a status of 0
-  pub written : {status : ℕ} → status ≡ 0 → n ≤ x → d ≡ unlessRefused status d₀ (sets d₀ 0 (tab n f))
-  written z l = let e : x ≡ n = omega (arith, h .turns) in rw (z, ← e) (h .is)
+  -- one turn more: a sample of the eight that stands where sample i of the run does is f i
+  pub one-turn : {d′ : List ℕ} {col0 last at skip m : ℕ} → Turned col0 x n last at skip m → (eight : List ℕ) → d′ ≡ sets d x (tab m (λ j. getD eight (skip + j) 0)) →
+      ((j i : ℕ) → j < 8 → i < n → at + j ≡ col0 + i → getD eight j 0 ≡ f i) → Writing asked f d₀ n d′ (x + m)
+  one-turn {skip = skip} {m = m} t eight e v =
+      some-more eight skip m (t .end) e (λ j l. v (skip + j) (x + j) (omega (arith, t .eight)) (omega (arith, t .end)) (omega (arith, t .place)))
 
--- a run that is refused leaves the destination
+  -- .. lies in the destination
+  pub turn-room : {col0 last at skip m : ℕ} → Turned col0 x n last at skip m → n ≤ length d₀ → (x + m ≤ length d) × (skip + m ≤ 8)
+  turn-room t r = (omega (arith, t .end, same), t .eight)
+
+  -- at the end
+  pub written : n ≤ x → d ≡ sets d₀ 0 (tab n f)
+  written l = let e : x ≡ n = omega (arith, h .turns) in rw (← e) (h .is)
+
+-- a run that is not refused leaves what it wrote, and one that is leaves the destination
+pub done : (status : ℕ) (d₀ w : List ℕ) {d : List ℕ} → status ≡ 0 → d ≡ w → d ≡ unlessRefused status d₀ w
+done status d₀ w z e = rw z e
+
 pub refused : (status : ℕ) (d w : List ℕ) → (status ≡ 0 → ⊥) → d ≡ unlessRefused status d w
 refused zero d w h = absurd (h refl)
 refused (suc s) d w h = refl

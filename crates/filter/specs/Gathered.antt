@@ -4,9 +4,10 @@ use mathlib.Core.List.{List}
 use mathlib.Core.Path.{_≡_}
 use lib.IntN.{ℤ, pos, natAbs, _+ℤ_, _-ℤ_, _*ℤ_}
 use lib.ListN.{getD}
+use lib.Seq.{sets}
 use Rattle.definition.specs.Numbers.{sumZ}
-use Rattle.definition.specs.Rows.{rowBytes, lumaRowBytes, lumaRowsAt}
-use Rattle.definition.specs.Sample.{dyOf, dxOf, centre, nsTap, nsConfigUv, nsConfigUvFromY}
+use Rattle.definition.specs.Rows.{tab, rowBytes, lumaRowBytes, lumaRowsAt, chromaFlat}
+use Rattle.definition.specs.Sample.{limit8, rounded, dyOf, dxOf, centre, nsTap, nsConfigUv, nsConfigUvFromY}
 use Rattle.filter.specs.Runs.{coefficients}
 use Rattle.filter.specs.Windows.{Rows, Summed}
 
@@ -38,6 +39,13 @@ compactTap l c k = (pos (l (dyOf nsConfigUvFromY k) (dxOf nsConfigUvFromY k)) -�
 
 abbrev pub compactSum : (ℤ → ℤ → ℕ) → (ℤ → ℤ → ℕ) → (ℕ → ℤ) → ℤ
 compactSum s l c = pos (128 * centre s) +ℤ sumZ 6 (nsTap s c nsConfigUv) +ℤ sumZ 12 (compactTap l c)
+
+-- the sample of byte col whose luma is that of sample x - 8, and a run of n of them from byte col0 on
+abbrev pub compactSample : List ℕ → List ℕ → List ℕ → List ℤ → ℕ → ℕ → ℕ
+compactSample rows indices compact filter col x = rounded limit8 (compactSum (chromaFlat rows indices col) (compactAt compact x) (coefficients filter))
+
+abbrev pub compactRun : List ℕ → List ℕ → List ℕ → ℕ → List ℕ → List ℤ → ℕ → List ℕ
+compactRun dst rows indices col0 compact filter n = sets dst 0 (tab n (λ x. compactSample rows indices compact filter (col0 + x) (x + 8)))
 
 -- the taps of luma are added up by themselves
 abbrev pub FromLumaPartial : List ℕ → ℕ → List ℤ → ℕ → ℤ → Type 0

@@ -1,5 +1,5 @@
 -- What the private functions of the runs ask: rows that the indices do not lead out of, and a tap that stays in its row.
-use Prim.Native.Nat.{ℕ, _+_, _*_, _^_, _≤_, _<_}
+use Prim.Native.Nat.{ℕ, _+_, _*_, _^_, _≤_, _<_, min}
 use mathlib.Core.Bool.{Bool, _&&_}
 use mathlib.Core.List.{List}
 use lib.Dec.{leb}
@@ -8,7 +8,7 @@ use lib.IntN.{ℤ, pos, negℤ, natAbs, _+ℤ_, _-ℤ_, _*ℤ_}
 use Rattle.definition.specs.Numbers.{sumZ}
 use Rattle.definition.specs.Rows.{rowBytes, lumaFlat, chromaFlat}
 use Rattle.definition.specs.Refusals.{indicesUpTo}
-use Rattle.definition.specs.Sample.{centre, pairOf, nsTap, nsConfigY, nsConfigUv, pcConfig}
+use Rattle.definition.specs.Sample.{limit8, centre, pairOf, nsTap, nsConfigY, nsConfigUv, pcConfig}
 use Rattle.laws.proofs.Sums.{Partial}
 use Rattle.filter.specs.Runs.{coefficients, windowInside}
 use lib.ListN.{length, getD}
@@ -29,10 +29,14 @@ pub record Spot (size mid col : ℕ) (dy dx : ℤ) : Type 0 where
   pub colRight : col + natAbs dx < size
   pub small : size < 2 ^ 16
 
+-- twice the greatest byte
+abbrev pub pairLimit : ℕ
+pairLimit = 2 * limit8
+
 -- a + b, which is at most twice a byte
 pub record PairAt (s : ℤ → ℤ → ℕ) (dy dx : ℤ) (r : ℕ) : Type 0 where
   pub is : r ≡ s dy dx + s (negℤ dy) (negℤ dx)
-  pub bound : r ≤ 510
+  pub bound : r ≤ pairLimit
 
 -- the bytes from `reach` before byte col to `reach` behind it lie in each of those rows
 pub record Window (first size reach : ℕ) (rows indices : List ℕ) (col : ℕ) : Type 0 where
@@ -48,6 +52,21 @@ pub record Summed (asked : Type 0) (C : ℤ) (f : ℕ → ℤ) (B D k : ℕ) (s 
 -- eight windows side by side
 pub record Eight (reach : ℕ) (rows indices : List ℕ) (at : ℕ) : Type 0 where
   pub window : (j : ℕ) → j < 8 → Window 0 76 reach rows indices (at + j)
+
+-- a run of n samples from byte col0 on over its own rows, with `reach` columns on both sides
+pub record OwnInside (reach dst : ℕ) (rows indices : List ℕ) (col0 n : ℕ) : Type 0 where
+  pub room : n ≤ dst
+  pub inside : Rows 0 76 rows indices
+  pub left : reach ≤ col0
+  pub right : col0 + n + reach ≤ 76
+
+-- one turn of a run, from sample x on: of the eight samples from byte `at` on it writes m, from the `skip`-th on
+pub record Turned (col0 x n last at skip m : ℕ) : Type 0 where
+  pub first : at ≡ min (col0 + x) last
+  pub place : at + skip ≡ col0 + x
+  pub some : 1 ≤ m
+  pub eight : skip + m ≤ 8
+  pub end : x + m ≤ n
 
 -- a pretrained filter's tap, whose pair is less 255, and what the twelve of them take off
 abbrev pub lessTap : (ℤ → ℤ → ℕ) → (ℕ → ℤ) → ℕ → ℤ

@@ -2,17 +2,21 @@
 // Rows are one flat array of padded rows, reached by ten row indices. Samples are worked out eight at a time in a local, which no store to the
 // destination can be taken to change; the last eight end with the rows, so that none leaves them. Their filter is read anew for each eight: the compiler then
 // sees that its numbers are short.
+// A filter is small where no number of a tap is more than SMALL from 0. Its taps are summed three at a time in 16 bits, from a copy of the
+// filter, whose numbers the compiler then spreads once for a run. Both ways give the same sum.
+ghost use mathlib.Core.Bool.{true, false};
 ghost use mathlib.Core.Path.{_≡_};
 ghost use Prim.Native.Nat.{ℕ, _+_, _*_, _^_, _<_, _≤_};
 ghost use lib.IntN.{pos, natAbs, _+ℤ_, _-ℤ_, _*ℤ_};
 ghost use lib.ListN.{length, getD};
 ghost use lib.Seq.{sets};
 ghost use Rattle.definition.specs.Numbers.{clipTo};
-ghost use Rattle.definition.specs.Rows.{tab, flatAround, lumaFlat, chromaFlat};
+ghost use Rattle.definition.specs.Rows.{tab, rowBytes, flatAround, lumaFlat};
 ghost use Rattle.definition.specs.Sample.{limit8, rounded, centre, lumaSample, pretrainedSample};
 ghost use Rattle.filter.specs.Runs.{runStatus, uvStatus, lumaRun, pretrainedRun, chromaRun, coefficients};
-ghost use Rattle.filter.specs.Windows.{ownInside, Rows, Window, Eight, Spot, PairAt, TakenOff, LumaPartial, PretrainedPartial, ChromaPartial};
-ghost use Rattle.filter.specs.Gathered.{every, Gatherable, Gathered, compactAt, compactSum, FromLumaPartial};
+ghost use Rattle.filter.specs.Windows.{pairLimit, ownInside, OwnInside, Rows, Window, Eight, Spot, PairAt, Turned, TakenOff, LumaPartial, PretrainedPartial, ChromaPartial};
+ghost use Rattle.filter.specs.Groups.{smallLimit, narrowLimit, Small, LumaGroup, NarrowPretrained, PretrainedGroup, ChromaGroup, FromLumaGroup};
+ghost use Rattle.filter.specs.Gathered.{every, Gatherable, Gathered, compactAt, compactSample, compactRun, FromLumaPartial};
 use bounds::least;
 use tables::PC_WIENER_CONFIG;
 use tables::WIENER_NS_CONFIG_UV;
@@ -27,6 +31,9 @@ const LUMA_ROWS_AT: usize = 380;
 
 // A row of gathered luma: eight bytes before it, so that eight samples can begin before the run does.
 const COMPACT_BYTES: usize = 84;
+
+// Three taps of numbers up to this are at most 3 * 510 * 21 = 32,130, and fit 16 bits.
+const SMALL: i16 = 21;
 
 // v clipped to 0 .. 255, as an i32: so the compiler narrows with saturation.
 fn clipped(v: i32) -> i32
@@ -216,6 +223,148 @@ fn y_eight(rows: &[u8], indices: &[usize; 10], at: usize, filter: &[i8; 16]) -> 
     out
 }
 
+// a - b in 16 bits: a pair less twice the centre, or a sample of luma less its centre.
+fn difference(a: u32, b: u32) -> i16
+    requires { ⌜ (a ≤ pairLimit) × (b ≤ pairLimit) ⌝ }
+    ensures { λ r. ⌜ (r ≡ pos a -ℤ pos b) × (natAbs r ≤ pairLimit) ⌝ }
+{
+    a as i16 - b as i16
+}
+
+// s + d c in 16 bits: one tap more of a group, whose sum so far is of two taps at most.
+fn narrow_tap(s: i16, d: i16, c: i16) -> i16
+    requires { ⌜ (natAbs s ≤ 2 * narrowLimit) × (natAbs d ≤ pairLimit) × (natAbs c ≤ smallLimit) ⌝ }
+    ensures { λ r. ⌜ (r ≡ s +ℤ d *ℤ c) × (natAbs r ≤ natAbs s + narrowLimit) ⌝ }
+{
+    s + d * c
+}
+
+// A sum and that of a group.
+fn with_group(s: i32, t: i16) -> i32
+    requires { ⌜ natAbs s < 2 ^ 30 ⌝ }
+    ensures { λ r. ⌜ (r ≡ s +ℤ t) × (natAbs r ≤ natAbs s + natAbs t) ⌝ }
+{
+    s + t as i32
+}
+
+fn is_large(c: i16) -> bool
+    ensures { λ r. ⌜ (r ≡ false → natAbs c ≤ smallLimit) ⌝ }
+{
+    c < -SMALL || SMALL < c
+}
+
+// The test goes through all numbers: the compiler then tests them side by side.
+fn is_small(filter: &[i8]) -> bool
+    ensures { λ r. ⌜ (r ≡ true → Small (length (now (filter .entry))) (now (filter .entry))) ⌝ }
+{
+    let mut small = true;
+    let mut k = 0;
+    while k < filter.len() {
+        if is_large(filter[k] as i16) {
+            small = false;
+        }
+        k += 1;
+    }
+    small
+}
+
+// Whether the taps of n samples are to be summed in groups: not for eight or fewer, where the test costs what it saves.
+fn worth_groups(filter: &[i8], n: usize) -> bool
+    ensures { λ r. ⌜ (r ≡ true → Small (length (now (filter .entry))) (now (filter .entry))) ⌝ }
+{
+    if n <= 8 {
+        return false;
+    }
+    is_small(filter)
+}
+
+// One tap more of the group that starts at tap g: its tap j.
+fn y_narrow_step(
+    s: i16,
+    rows: &[u8],
+    indices: &[usize; 10],
+    col: usize,
+    filter: &[i8; 16],
+    g: usize,
+    j: usize,
+) -> i16
+    requires { ⌜ (g + j < 16) × (j < 3) ⌝ }
+    requires { ⌜ LumaGroup (now rows) (now indices) col (now filter) g j s ⌝ }
+    ensures { λ r. ⌜ LumaGroup (now (rows .entry)) (now (indices .entry)) col (now (filter .entry)) g (j + 1) r ⌝ }
+{
+    let k = g + j;
+    let t = WIENER_NS_CONFIG_Y[k];
+    let p = pair_at(rows, indices, 4, col, t[0], t[1]);
+    let m = byte_at(rows, indices, 0, ROW_BYTES, 4, col, 0, 0);
+    let d = difference(p, 2 * m as u32);
+    narrow_tap(s, d, filter[k] as i16)
+}
+
+// The same sum as `y_sum`, of groups of taps.
+fn y_narrow_sum(rows: &[u8], indices: &[usize; 10], col: usize, filter: &[i8; 16]) -> i32
+    requires { ⌜ Window 0 76 4 (now rows) (now indices) col ⌝ }
+    requires { ⌜ Small 16 (now filter) ⌝ }
+    ensures { λ r. ⌜ LumaPartial (now (rows .entry)) (now (indices .entry)) col (now (filter .entry)) 16 r ⌝ }
+{
+    let s0 = ns_start(rows, indices, 4, col);
+    let t1 = y_narrow_step(0, rows, indices, col, filter, 0, 0);
+    let t2 = y_narrow_step(t1, rows, indices, col, filter, 0, 1);
+    let t3 = y_narrow_step(t2, rows, indices, col, filter, 0, 2);
+    let s3 = with_group(s0, t3);
+    let t4 = y_narrow_step(0, rows, indices, col, filter, 3, 0);
+    let t5 = y_narrow_step(t4, rows, indices, col, filter, 3, 1);
+    let t6 = y_narrow_step(t5, rows, indices, col, filter, 3, 2);
+    let s6 = with_group(s3, t6);
+    let t7 = y_narrow_step(0, rows, indices, col, filter, 6, 0);
+    let t8 = y_narrow_step(t7, rows, indices, col, filter, 6, 1);
+    let t9 = y_narrow_step(t8, rows, indices, col, filter, 6, 2);
+    let s9 = with_group(s6, t9);
+    let t10 = y_narrow_step(0, rows, indices, col, filter, 9, 0);
+    let t11 = y_narrow_step(t10, rows, indices, col, filter, 9, 1);
+    let t12 = y_narrow_step(t11, rows, indices, col, filter, 9, 2);
+    let s12 = with_group(s9, t12);
+    let t13 = y_narrow_step(0, rows, indices, col, filter, 12, 0);
+    let t14 = y_narrow_step(t13, rows, indices, col, filter, 12, 1);
+    let s14 = with_group(s12, t14);
+    let t15 = y_narrow_step(0, rows, indices, col, filter, 14, 0);
+    let t16 = y_narrow_step(t15, rows, indices, col, filter, 14, 1);
+    with_group(s14, t16)
+}
+
+// The same eight samples as `y_eight`.
+fn y_narrow_eight(rows: &[u8], indices: &[usize; 10], at: usize, filter: &[i8; 16]) -> [u8; 8]
+    requires { ⌜ Eight 4 (now rows) (now indices) at ⌝ }
+    requires { ⌜ Small 16 (now filter) ⌝ }
+    ensures { λ r. ⌜ ((j : ℕ) → j < 8 → getD r j 0 ≡ lumaSample limit8 (lumaFlat (now (rows .entry)) (now (indices .entry)) (at + j)) (coefficients (now (filter .entry)))) ⌝ }
+{
+    let mut out = [0u8; 8];
+    let mut j = 0;
+    while j < 8 {
+        out[j] = round_clip(y_narrow_sum(rows, indices, at + j, filter));
+        j += 1;
+    }
+    out
+}
+
+// Eight samples, by the filter or, where its numbers are small, by its copy.
+fn y_eight_by(
+    rows: &[u8],
+    indices: &[usize; 10],
+    at: usize,
+    filter: &[i8; 16],
+    copy: &[i8; 16],
+    small: bool,
+) -> [u8; 8]
+    requires { ⌜ Eight 4 (now rows) (now indices) at ⌝ }
+    requires { ⌜ (now copy ≡ now filter) × (small ≡ true → Small 16 (now copy)) ⌝ }
+    ensures { λ r. ⌜ ((j : ℕ) → j < 8 → getD r j 0 ≡ lumaSample limit8 (lumaFlat (now (rows .entry)) (now (indices .entry)) (at + j)) (coefficients (now (filter .entry)))) ⌝ }
+{
+    if small {
+        return y_narrow_eight(rows, indices, at, copy);
+    }
+    y_eight(rows, indices, at, filter)
+}
+
 // All of eight samples, from byte x of the destination on: one store.
 fn put_eight(dst: &mut [u8], x: usize, eight: [u8; 8])
     requires { ⌜ x + 8 ≤ length (now dst) ⌝ }
@@ -251,6 +400,24 @@ fn put(dst: &mut [u8], x: usize, eight: [u8; 8], skip: usize, m: usize)
     }
 }
 
+// What one turn of a run writes: m samples, which are the eight from byte `at` on from the `skip`-th of them on.
+struct Turn {
+    at: usize,
+    skip: usize,
+    m: usize,
+}
+
+// The turn that goes on with sample x of n: its eight begin with that sample, or at byte `last`, where the last eight of the rows do.
+fn next_turn(col0: usize, x: usize, n: usize, last: usize) -> Turn
+    requires { ⌜ (x < n) × (col0 + n ≤ last + 8) × (last + 8 ≤ rowBytes) ⌝ }
+    ensures { λ r. ⌜ Turned col0 x n last (r .at) (r .skip) (r .m) ⌝ }
+{
+    let at = least(col0 + x, last);
+    let skip = col0 + x - at;
+    let m = least(8 - skip, n - x);
+    Turn { at, skip, m }
+}
+
 // The n samples from byte col0 on, restored by a luma filter or by the first 16 numbers of a user set.
 pub fn ns_wiener_fir_run(
     dst: &mut [u8],
@@ -268,14 +435,14 @@ pub fn ns_wiener_fir_run(
         return status;
     }
     let ix = *indices;
+    let small = worth_groups(filter, n);
+    let copy = *filter;
     let mut x = 0;
     while x < n {
-        let at = least(col0 + x, 64);
-        let skip = col0 + x - at;
-        let eight = y_eight(rows, &ix, at, filter);
-        let m = least(8 - skip, n - x);
-        put(dst, x, eight, skip, m);
-        x += m;
+        let t = next_turn(col0, x, n, 64);
+        let eight = y_eight_by(rows, &ix, t.at, filter, &copy, small);
+        put(dst, x, eight, t.skip, t.m);
+        x += t.m;
     }
     0
 }
@@ -357,6 +524,118 @@ fn pc_eight(rows: &[u8], indices: &[usize; 10], at: usize, filter: &[i16; 13], o
     out
 }
 
+// The centre times the last number of a set.
+fn pc_centre(rows: &[u8], indices: &[usize; 10], col: usize, last: i16) -> i32
+    requires { ⌜ Window 0 76 4 (now rows) (now indices) col ⌝ }
+    ensures { λ r. ⌜ (r ≡ pos (centre (lumaFlat (now (rows .entry)) (now (indices .entry)) col)) *ℤ last) × (natAbs r ≤ 8355840) ⌝ }
+{
+    let m = byte_at(rows, indices, 0, ROW_BYTES, 4, col, 0, 0);
+    m as i32 * last as i32
+}
+
+// One tap more of the group that starts at tap g: its tap j.
+fn pc_narrow_step(
+    s: i16,
+    rows: &[u8],
+    indices: &[usize; 10],
+    col: usize,
+    filter: &[i16; 13],
+    g: usize,
+    j: usize,
+) -> i16
+    requires { ⌜ (g + j < 12) × (j < 3) ⌝ }
+    requires { ⌜ PretrainedGroup (now rows) (now indices) col (now filter) g j s ⌝ }
+    ensures { λ r. ⌜ PretrainedGroup (now (rows .entry)) (now (indices .entry)) col (now (filter .entry)) g (j + 1) r ⌝ }
+{
+    let k = g + j;
+    let t = PC_WIENER_CONFIG[k];
+    let p = pair_at(rows, indices, 4, col, t[0], t[1]);
+    narrow_tap(s, p as i16, filter[k])
+}
+
+// The sum that one sample of a pretrained filter rounds, of groups of taps: nothing is taken off.
+fn pc_narrow_sum(
+    rows: &[u8],
+    indices: &[usize; 10],
+    col: usize,
+    filter: &[i16; 13],
+    last: i16,
+) -> i32
+    requires { ⌜ Window 0 76 4 (now rows) (now indices) col ⌝ }
+    requires { ⌜ Small 12 (now filter) × (last ≡ coefficients (now filter) 12) ⌝ }
+    ensures { λ r. ⌜ NarrowPretrained (now (rows .entry)) (now (indices .entry)) col (now (filter .entry)) 12 r ⌝ }
+{
+    let s0 = pc_centre(rows, indices, col, last);
+    let t1 = pc_narrow_step(0, rows, indices, col, filter, 0, 0);
+    let t2 = pc_narrow_step(t1, rows, indices, col, filter, 0, 1);
+    let t3 = pc_narrow_step(t2, rows, indices, col, filter, 0, 2);
+    let s3 = with_group(s0, t3);
+    let t4 = pc_narrow_step(0, rows, indices, col, filter, 3, 0);
+    let t5 = pc_narrow_step(t4, rows, indices, col, filter, 3, 1);
+    let t6 = pc_narrow_step(t5, rows, indices, col, filter, 3, 2);
+    let s6 = with_group(s3, t6);
+    let t7 = pc_narrow_step(0, rows, indices, col, filter, 6, 0);
+    let t8 = pc_narrow_step(t7, rows, indices, col, filter, 6, 1);
+    let t9 = pc_narrow_step(t8, rows, indices, col, filter, 6, 2);
+    let s9 = with_group(s6, t9);
+    let t10 = pc_narrow_step(0, rows, indices, col, filter, 9, 0);
+    let t11 = pc_narrow_step(t10, rows, indices, col, filter, 9, 1);
+    let t12 = pc_narrow_step(t11, rows, indices, col, filter, 9, 2);
+    with_group(s9, t12)
+}
+
+// The same eight samples as `pc_eight`. The last number stands in eight places: so the compiler multiplies eight centres at once.
+fn pc_narrow_eight(rows: &[u8], indices: &[usize; 10], at: usize, filter: &[i16; 13]) -> [u8; 8]
+    requires { ⌜ Eight 4 (now rows) (now indices) at ⌝ }
+    requires { ⌜ Small 12 (now filter) ⌝ }
+    ensures { λ r. ⌜ ((j : ℕ) → j < 8 → getD r j 0 ≡ pretrainedSample limit8 (lumaFlat (now (rows .entry)) (now (indices .entry)) (at + j)) (coefficients (now (filter .entry)))) ⌝ }
+{
+    let last = [filter[12]; 8];
+    let mut out = [0u8; 8];
+    let mut j = 0;
+    while j < 8 {
+        out[j] = round_clip(pc_narrow_sum(rows, indices, at + j, filter, last[j]));
+        j += 1;
+    }
+    out
+}
+
+// The same of a set. They are counted: of a flag the compiler would make two loops of the run, and short runs would be slower.
+fn is_small_set(filter: &[i16; 13]) -> bool
+    ensures { λ r. ⌜ (r ≡ true → Small 12 (now (filter .entry))) ⌝ }
+{
+    let mut found: u8 = 0;
+    let mut k = 0;
+    while k < 12 {
+        if is_large(filter[k]) {
+            found += 1;
+        }
+        k += 1;
+    }
+    found == 0
+}
+
+// Eight samples, by the set or, where its taps are small, by its copy.
+fn pc_eight_by(
+    rows: &[u8],
+    indices: &[usize; 10],
+    at: usize,
+    filter: &[i16; 13],
+    off: i32,
+    copy: &[i16; 13],
+    small: bool,
+) -> [u8; 8]
+    requires { ⌜ Eight 4 (now rows) (now indices) at ⌝ }
+    requires { ⌜ TakenOff (now filter) off ⌝ }
+    requires { ⌜ (now copy ≡ now filter) × (small ≡ true → Small 12 (now copy)) ⌝ }
+    ensures { λ r. ⌜ ((j : ℕ) → j < 8 → getD r j 0 ≡ pretrainedSample limit8 (lumaFlat (now (rows .entry)) (now (indices .entry)) (at + j)) (coefficients (now (filter .entry)))) ⌝ }
+{
+    if small {
+        return pc_narrow_eight(rows, indices, at, copy);
+    }
+    pc_eight(rows, indices, at, filter, off)
+}
+
 // The n samples from byte col0 on, restored by a pretrained set.
 pub fn pc_wiener_fir_run(
     dst: &mut [u8],
@@ -375,14 +654,14 @@ pub fn pc_wiener_fir_run(
     }
     let ix = *indices;
     let off = taken_off(filter);
+    let small = is_small_set(filter);
+    let copy = *filter;
     let mut x = 0;
     while x < n {
-        let at = least(col0 + x, 64);
-        let skip = col0 + x - at;
-        let eight = pc_eight(rows, &ix, at, filter, off);
-        let m = least(8 - skip, n - x);
-        put(dst, x, eight, skip, m);
-        x += m;
+        let t = next_turn(col0, x, n, 64);
+        let eight = pc_eight_by(rows, &ix, t.at, filter, off, &copy, small);
+        put(dst, x, eight, t.skip, t.m);
+        x += t.m;
     }
     0
 }
@@ -490,19 +769,97 @@ fn uv_luma_sum(compact: &[u8; 420], x: usize, filter: &[i8; 18]) -> i32
     uv_luma_step(s11, compact, x, filter, 11)
 }
 
-fn uv_sum(
+// One tap more of the group of its own taps that starts at tap g: its tap j.
+fn uv_narrow_step(
+    s: i16,
     rows: &[u8],
     indices: &[usize; 10],
     col: usize,
+    filter: &[i8; 18],
+    g: usize,
+    j: usize,
+) -> i16
+    requires { ⌜ (g + j < 6) × (j < 3) ⌝ }
+    requires { ⌜ ChromaGroup (now rows) (now indices) col (now filter) g j s ⌝ }
+    ensures { λ r. ⌜ ChromaGroup (now (rows .entry)) (now (indices .entry)) col (now (filter .entry)) g (j + 1) r ⌝ }
+{
+    let k = g + j;
+    let t = WIENER_NS_CONFIG_UV[k];
+    let p = pair_at(rows, indices, 2, col, t[0], t[1]);
+    let m = byte_at(rows, indices, 0, ROW_BYTES, 2, col, 0, 0);
+    let d = difference(p, 2 * m as u32);
+    narrow_tap(s, d, filter[k] as i16)
+}
+
+// The same of its taps of luma.
+fn uv_narrow_luma_step(
+    s: i16,
     compact: &[u8; 420],
     x: usize,
     filter: &[i8; 18],
-) -> i32
-    requires { ⌜ Window 0 76 2 (now rows) (now indices) col ⌝ }
-    requires { ⌜ x < 80 ⌝ }
-    ensures { λ r. ⌜ (r ≡ compactSum (chromaFlat (now (rows .entry)) (now (indices .entry)) col) (compactAt (now (compact .entry)) x) (coefficients (now (filter .entry)))) × (natAbs r < 2 ^ 30) ⌝ }
+    g: usize,
+    j: usize,
+) -> i16
+    requires { ⌜ (g + j < 12) × (j < 3) ⌝ }
+    requires { ⌜ FromLumaGroup (now compact) x (now filter) g j s ⌝ }
+    ensures { λ r. ⌜ FromLumaGroup (now (compact .entry)) x (now (filter .entry)) g (j + 1) r ⌝ }
 {
-    uv_own_sum(rows, indices, col, filter) + uv_luma_sum(compact, x, filter)
+    let k = g + j;
+    let t = WIENER_NS_CONFIG_UV_FROM_Y[k];
+    let v = compact_at(compact, x, t[0], t[1]);
+    let m = compact_at(compact, x, 0, 0);
+    let d = difference(v as u32, m as u32);
+    let at = 6 + k;
+    narrow_tap(s, d, filter[at] as i16)
+}
+
+// The same sum as `uv_own_sum`.
+fn uv_narrow_own_sum(rows: &[u8], indices: &[usize; 10], col: usize, filter: &[i8; 18]) -> i32
+    requires { ⌜ Window 0 76 2 (now rows) (now indices) col ⌝ }
+    requires { ⌜ Small 18 (now filter) ⌝ }
+    ensures { λ r. ⌜ ChromaPartial (now (rows .entry)) (now (indices .entry)) col (now (filter .entry)) 6 r ⌝ }
+{
+    let s0 = ns_start(rows, indices, 2, col);
+    let t1 = uv_narrow_step(0, rows, indices, col, filter, 0, 0);
+    let t2 = uv_narrow_step(t1, rows, indices, col, filter, 0, 1);
+    let t3 = uv_narrow_step(t2, rows, indices, col, filter, 0, 2);
+    let s3 = with_group(s0, t3);
+    let t4 = uv_narrow_step(0, rows, indices, col, filter, 3, 0);
+    let t5 = uv_narrow_step(t4, rows, indices, col, filter, 3, 1);
+    let t6 = uv_narrow_step(t5, rows, indices, col, filter, 3, 2);
+    with_group(s3, t6)
+}
+
+// The same sum as `uv_luma_sum`.
+fn uv_narrow_luma_sum(compact: &[u8; 420], x: usize, filter: &[i8; 18]) -> i32
+    requires { ⌜ x < 80 ⌝ }
+    requires { ⌜ Small 18 (now filter) ⌝ }
+    ensures { λ r. ⌜ FromLumaPartial (now (compact .entry)) x (now (filter .entry)) 12 r ⌝ }
+{
+    let t1 = uv_narrow_luma_step(0, compact, x, filter, 0, 0);
+    let t2 = uv_narrow_luma_step(t1, compact, x, filter, 0, 1);
+    let t3 = uv_narrow_luma_step(t2, compact, x, filter, 0, 2);
+    let s3 = with_group(0, t3);
+    let t4 = uv_narrow_luma_step(0, compact, x, filter, 3, 0);
+    let t5 = uv_narrow_luma_step(t4, compact, x, filter, 3, 1);
+    let t6 = uv_narrow_luma_step(t5, compact, x, filter, 3, 2);
+    let s6 = with_group(s3, t6);
+    let t7 = uv_narrow_luma_step(0, compact, x, filter, 6, 0);
+    let t8 = uv_narrow_luma_step(t7, compact, x, filter, 6, 1);
+    let t9 = uv_narrow_luma_step(t8, compact, x, filter, 6, 2);
+    let s9 = with_group(s6, t9);
+    let t10 = uv_narrow_luma_step(0, compact, x, filter, 9, 0);
+    let t11 = uv_narrow_luma_step(t10, compact, x, filter, 9, 1);
+    let t12 = uv_narrow_luma_step(t11, compact, x, filter, 9, 2);
+    with_group(s9, t12)
+}
+
+// The sum that one chroma sample rounds: that of its own taps and that of its taps of luma.
+fn uv_sum(own: i32, of_luma: i32) -> i32
+    requires { ⌜ (natAbs own < 2 ^ 29) × (natAbs «of_luma» < 2 ^ 29) ⌝ }
+    ensures { λ r. ⌜ (r ≡ own +ℤ «of_luma») × (natAbs r < 2 ^ 30) ⌝ }
+{
+    own + of_luma
 }
 
 // Eight chroma samples from byte `at` on, whose luma is gathered from sample x - 8 on.
@@ -516,15 +873,88 @@ fn uv_eight(
 ) -> [u8; 8]
     requires { ⌜ Eight 2 (now rows) (now indices) at ⌝ }
     requires { ⌜ x ≤ 72 ⌝ }
-    ensures { λ r. ⌜ ((j : ℕ) → j < 8 → getD r j 0 ≡ rounded limit8 (compactSum (chromaFlat (now (rows .entry)) (now (indices .entry)) (at + j)) (compactAt (now (compact .entry)) (x + j)) (coefficients (now (filter .entry))))) ⌝ }
+    ensures { λ r. ⌜ ((j : ℕ) → j < 8 → getD r j 0 ≡ compactSample (now (rows .entry)) (now (indices .entry)) (now (compact .entry)) (now (filter .entry)) (at + j) (x + j)) ⌝ }
 {
     let mut out = [0u8; 8];
     let mut j = 0;
     while j < 8 {
-        out[j] = round_clip(uv_sum(rows, indices, at + j, compact, x + j, filter));
+        let own = uv_own_sum(rows, indices, at + j, filter);
+        let of_luma = uv_luma_sum(compact, x + j, filter);
+        out[j] = round_clip(uv_sum(own, of_luma));
         j += 1;
     }
     out
+}
+
+// The same eight samples as `uv_eight`.
+fn uv_narrow_eight(
+    rows: &[u8],
+    indices: &[usize; 10],
+    at: usize,
+    compact: &[u8; 420],
+    x: usize,
+    filter: &[i8; 18],
+) -> [u8; 8]
+    requires { ⌜ Eight 2 (now rows) (now indices) at ⌝ }
+    requires { ⌜ x ≤ 72 ⌝ }
+    requires { ⌜ Small 18 (now filter) ⌝ }
+    ensures { λ r. ⌜ ((j : ℕ) → j < 8 → getD r j 0 ≡ compactSample (now (rows .entry)) (now (indices .entry)) (now (compact .entry)) (now (filter .entry)) (at + j) (x + j)) ⌝ }
+{
+    let mut out = [0u8; 8];
+    let mut j = 0;
+    while j < 8 {
+        let own = uv_narrow_own_sum(rows, indices, at + j, filter);
+        let of_luma = uv_narrow_luma_sum(compact, x + j, filter);
+        out[j] = round_clip(uv_sum(own, of_luma));
+        j += 1;
+    }
+    out
+}
+
+// The n samples from byte col0 on, whose luma is gathered. The two ways have a loop of their own each: in one loop the compiler makes the other way slower.
+fn uv_run(
+    dst: &mut [u8],
+    rows: &[u8],
+    indices: &[usize; 10],
+    col0: usize,
+    compact: &[u8; 420],
+    filter: &[i8; 18],
+    n: usize,
+)
+    requires { ⌜ OwnInside 2 (length (now dst)) (now rows) (now indices) col0 n ⌝ }
+    ensures { λ _. ⌜ now (dst .exit) ≡ compactRun (now (dst .entry)) (now (rows .entry)) (now (indices .entry)) col0 (now (compact .entry)) (now (filter .entry)) n ⌝ }
+{
+    let mut x = 0;
+    while x < n {
+        let t = next_turn(col0, x, n, 66);
+        let from = least(t.at + 8 - col0, 72);
+        let eight = uv_eight(rows, indices, t.at, compact, from, filter);
+        put(dst, x, eight, t.skip, t.m);
+        x += t.m;
+    }
+}
+
+fn uv_narrow_run(
+    dst: &mut [u8],
+    rows: &[u8],
+    indices: &[usize; 10],
+    col0: usize,
+    compact: &[u8; 420],
+    filter: &[i8; 18],
+    n: usize,
+)
+    requires { ⌜ OwnInside 2 (length (now dst)) (now rows) (now indices) col0 n ⌝ }
+    requires { ⌜ Small 18 (now filter) ⌝ }
+    ensures { λ _. ⌜ now (dst .exit) ≡ compactRun (now (dst .entry)) (now (rows .entry)) (now (indices .entry)) col0 (now (compact .entry)) (now (filter .entry)) n ⌝ }
+{
+    let mut x = 0;
+    while x < n {
+        let t = next_turn(col0, x, n, 66);
+        let from = least(t.at + 8 - col0, 72);
+        let eight = uv_narrow_eight(rows, indices, t.at, compact, from, filter);
+        put(dst, x, eight, t.skip, t.m);
+        x += t.m;
+    }
 }
 
 fn uv_status(
@@ -573,15 +1003,11 @@ pub fn ns_wiener_uv_fir_run(
     }
     let ix = *indices;
     let compact = gather(rows, &ix, lcol0 - 2 * step, step, n);
-    let mut x = 0;
-    while x < n {
-        let at = least(col0 + x, 66);
-        let skip = col0 + x - at;
-        let from = least(x + 8 - skip, 72);
-        let eight = uv_eight(rows, &ix, at, &compact, from, filter);
-        let m = least(8 - skip, n - x);
-        put(dst, x, eight, skip, m);
-        x += m;
+    if worth_groups(filter, n) {
+        let copy = *filter;
+        uv_narrow_run(dst, rows, &ix, col0, &compact, &copy, n);
+        return 0;
     }
+    uv_run(dst, rows, &ix, col0, &compact, filter, n);
     0
 }

@@ -1,26 +1,27 @@
 -- `filter::pc_wiener_fir_run` meets its contract: after each turn the first x samples are written. Assumes nothing.
 use native.Mathlib.Omega.{arith}
-use mathlib.Core.Path.{_≡_, sym, ap, _∙_}
-use Prim.Native.Nat.{ℕ, _+_, _-_, _<_}
+use mathlib.Core.Path.{_≡_, refl, sym, ap, _∙_}
+use Prim.Native.Nat.{ℕ, _+_, _-_}
+use lib.Dec.{lit≤}
 use lib.ListN.{length}
 use mir.Syntax.{w32}
 use mir.Val.{toZ}
 use Rattle.definition.specs.Rows.{lumaFlat}
-use Rattle.definition.specs.Sample.{pretrainedSample}
+use Rattle.definition.specs.Sample.{limit8, pretrainedSample}
 use Rattle.filter.specs.Runs.{runStatus, coefficients}
-use Rattle.filter.specs.Windows.{TakenOff}
+use Rattle.filter.specs.Windows.{OwnInside, TakenOff}
 use Rattle.filter.proofs.Lessened.{passed-off}
-use Rattle.filter.proofs.Statuses.{OwnInside, run-inside, eight-inside}
-use Rattle.filter.proofs.Writes.{Writing, none-yet, same, some-more, written, refused}
+use Rattle.filter.proofs.Statuses.{run-inside, eight-inside}
+use Rattle.filter.proofs.Writes.{Writing, none-yet, same, one-turn, turn-room, written, done, refused}
 use Rattle.filter.proofs.pc_wiener_fir_run.Statement.{statement}
 use Rattle.filter.proofs.pc_wiener_fir_run.Tie as tie
 
 abbrev Inv-loop : tie.InvT-loop
-Inv-loop dst₀ rows indices col0 filter n status ix off x₀ dst x =
-    Writing (OwnInside 4 (length dst₀) rows indices col0 n × TakenOff filter (toZ w32 off)) (λ (j : ℕ). pretrainedSample 255 (lumaFlat rows indices (col0 + j)) (coefficients filter)) dst₀ n dst x
+Inv-loop dst₀ rows indices col0 filter n status ix off small copy x₀ dst x =
+    Writing (OwnInside 4 (length dst₀) rows indices col0 n × TakenOff filter (toZ w32 off)) (λ (j : ℕ). pretrainedSample limit8 (lumaFlat rows indices (col0 + j)) (coefficients filter)) dst₀ n dst x
 
 abbrev μ-loop : tie.MeasureT-loop
-μ-loop dst₀ rows indices col0 filter n status ix off x₀ dst x = n - x
+μ-loop dst₀ rows indices col0 filter n status ix off small copy x₀ dst x = n - x
 
 run-status-requires : tie.Need-run-status-requires Inv-loop μ-loop
 run-status-requires c κs = tt
@@ -39,76 +40,51 @@ passed c = sym (c .before .run-status .ensures) ∙ c .if1 .left
 taken-off-requires : tie.Need-taken-off-requires Inv-loop μ-loop
 taken-off-requires c κs = tt
 
+is-small-set-requires : tie.Need-is-small-set-requires Inv-loop μ-loop
+is-small-set-requires c κs = tt
+
 loop-holds : tie.Need-loop-holds Inv-loop μ-loop
 loop-holds c =
-    let a = c .before .before .before .before .before .before .args in
-    none-yet (run-inside (length (a .dst .now)) (a .rows .now) (a .indices .now) (a .col0) (a .n) (passed (c .before .before)), passed-off (record { sfits = c .taken-off .ok }) (c .taken-off .ensures))
+    let a = c .before .before .before .before .before .before .before .before .args in
+    let off = c .before .before .taken-off in
+    none-yet (run-inside (length (a .dst .now)) (a .rows .now) (a .indices .now) (a .col0) (a .n) (passed (c .before .before .before .before)), passed-off (record { sfits = off .ok }) (off .ensures))
 
--- where a turn begins
-right : (c : tie.In-loop Inv-loop μ-loop) → c .before .before .before .before .before .before .before .before .args .col0 + c .before .loop .x + 4 < 76
-right c = c .before .loop .inv .inside .0 .windows (c .before .loop .x) (c .loop-test .taken) .right
+next-turn-requires : tie.Need-next-turn-requires Inv-loop μ-loop
+next-turn-requires c κs = (c .loop-test .taken, omega (arith, c .before .loop .inv .inside .0 .right), lit≤ tt)
 
-add-least : tie.Need-add-least Inv-loop μ-loop
-add-least c = omega (arith, right c)
-
-least-requires : tie.Need-least-requires Inv-loop μ-loop
-least-requires c κs = tt
-
-add-skip : tie.Need-add-skip Inv-loop μ-loop
-add-skip c = omega (arith, right (c .before))
-
-sub-skip : tie.Need-sub-skip Inv-loop μ-loop
-sub-skip c = omega (arith, c .least .ensures)
-
-pc-eight-requires : tie.Need-pc-eight-requires Inv-loop μ-loop
-pc-eight-requires c κs =
-    let l = c .before .before .before .loop in
-    (eight-inside (l .inv .inside .0) (l .x) (c .before .least .result) 64 (omega arith) (c .before .before .loop-test .taken) (omega arith) (c .before .least .ensures), l .inv .inside .1)
-
-sub-least : tie.Need-sub-least Inv-loop μ-loop
-sub-least c = omega (arith, right (c .before .before .before), c .before .before .least .ensures)
-
-sub-least-2 : tie.Need-sub-least-2 Inv-loop μ-loop
-sub-least-2 c = omega (arith, c .before .before .before .loop-test .taken)
-
-least-requires-2 : tie.Need-least-requires-2 Inv-loop μ-loop
-least-requires-2 c κs = tt
+pc-eight-by-requires : tie.Need-pc-eight-by-requires Inv-loop μ-loop
+pc-eight-by-requires c κs =
+    let l = c .before .before .before .before .loop in
+    let t = c .before .before .next-turn in
+    (eight-inside (l .inv .inside .0) (t .ensures) refl (lit≤ tt), (l .inv .inside .1, (refl, c .before .before .before .before .before .before .is-small-set .ensures)))
 
 put-requires : tie.Need-put-requires Inv-loop μ-loop
 put-requires c κs =
     let l = c .before .before .before .before .before .before .loop in
-    (omega (arith, same (l .inv), l .inv .inside .0 .room, c .before .least2 .ensures), omega (arith, right (c .before .before .before .before .before), c .before .before .before .before .least .ensures, c .before .least2 .ensures))
+    turn-room (l .inv) (c .before .before .before .before .next-turn .ensures) (l .inv .inside .0 .room)
 
 add-x : tie.Need-add-x Inv-loop μ-loop
-add-x c =
-    omega (arith, c .before .before .before .before .least2 .ensures, right (c .before .before .before .before .before .before .before .before), c .before .before .before .before .before .before .before .before .loop-test .taken)
+add-x c = omega (arith, c .before .before .before .before .before .before .before .before .next-turn .ensures .end)
 
 loop-less : tie.Need-loop-less Inv-loop μ-loop
-loop-less c =
-    let i = c .before .before .before .before .before .before .before .before in
-    omega (arith, right i, c .before .before .before .before .before .before .before .least .ensures, c .before .before .before .before .least2 .ensures, i .loop-test .taken)
+loop-less c = let t = c .before .before .before .before .before .before .before .before .next-turn .ensures in omega (arith, t .some, t .end)
 
 loop-again : tie.Need-loop-again Inv-loop μ-loop
 loop-again c =
-    let i = c .before .before .before .before .before .before .before .before in
+    let i = c .before .before .before .before .before .before .before .before .before in
     let l = i .before .loop in
-    let a = i .before .before .before .before .before .before .before .before .args in
-    let at = c .before .before .before .before .before .before .before .least in
-    let eight = c .before .before .before .before .before .pc-eight in
-    let m = c .before .before .before .before .least2 in
-    let skip = a .col0 + l .x - at .result in
-    some-more (l .inv) (eight .result) skip (m .result) (omega (arith, m .ensures, i .loop-test .taken)) (c .before .before .put .ensures)
-    (λ j h.
-    eight .ensures (skip + j) (omega (arith, m .ensures, right i, at .ensures)) ∙
-    ap (λ (k : ℕ). pretrainedSample 255 (lumaFlat (a .rows .now) (a .indices .now) k) (coefficients (a .filter .now))) (omega (arith, at .ensures)))
+    let a = i .before .before .before .before .before .before .before .before .before .before .args in
+    let e = c .before .before .before .before .before .pc-eight-by in
+    one-turn (l .inv) (c .before .before .before .before .before .before .before .before .next-turn .ensures) (e .result) (c .before .before .before .put .ensures)
+    (λ j k h m p. e .ensures j h ∙ ap (λ (b : ℕ). pretrainedSample limit8 (lumaFlat (a .rows .now) (a .indices .now) b) (coefficients (a .filter .now))) p)
 
 same-length : tie.Need-same-length Inv-loop μ-loop
 same-length c = same (c .before .loop .inv)
 
 returns-2 : tie.Need-returns-2 Inv-loop μ-loop
 returns-2 c =
-    let z = passed (c .before .before .before .before) in
-    (sym z, written (c .before .loop .inv) z (c .loop-test .left))
+    let z = passed (c .before .before .before .before .before .before) in
+    (sym z, done _ _ _ z (written (c .before .loop .inv) (c .loop-test .left)))
 
 pub pc-wiener-fir-run-spec : {M : Type 1} → statement M
 pc-wiener-fir-run-spec =
@@ -119,15 +95,10 @@ pc-wiener-fir-run-spec =
     run-status-requires
     returns
     taken-off-requires
+    is-small-set-requires
     loop-holds
-    add-least
-    least-requires
-    add-skip
-    sub-skip
-    pc-eight-requires
-    sub-least
-    sub-least-2
-    least-requires-2
+    next-turn-requires
+    pc-eight-by-requires
     put-requires
     add-x
     loop-less
