@@ -1,0 +1,89 @@
+-- `filter::pretrained::pc_narrow_step` meets its contract: the calls add what tap g + j of the definition adds. Assumes nothing.
+use borrow.Author.Needs.{needs}
+use native.Mathlib.Omega.{arith}
+use mathlib.Core.Path.{_∙_}
+use Prim.Native.Nat.{_+_}
+use lib.Dec.{lit<, lit≤}
+use lib.IntN.{pos, _*ℤ_}
+use mir.Syntax.{w16}
+use mir.Val.{ofZ}
+use mir.Facts.{toZ-ofZ}
+use Rattle.definition.specs.Sample.{pcConfig}
+use Rattle.laws.proofs.Held.{Held, natural}
+use Rattle.filter.specs.Runs.{coefficients}
+use Rattle.filter.specs.Windows.{pairLimit}
+use Rattle.filter.specs.Groups.{smallLimit}
+use Rattle.filter.proofs.Steps.{tap-spot, pair-is, stepped-by}
+use Rattle.filter.proofs.Groups.{small-number}
+use Rattle.filter.proofs.pretrained.pc_narrow_step.Statement.{statement}
+use Rattle.filter.proofs.pretrained.pc_narrow_step.Tie as tie
+
+-- the pair and the number of the set
+module _ (c : tie.After-narrow-tap-arg) where
+  abbrev at : tie.Start
+  at = c .before .before .before .before .before .before
+
+  pair : Held w16 (c .before .pair-at .result) (pos (c .before .pair-at .result)) pairLimit
+  pair = natural (c .before .pair-at .ensures .bound) (lit< tt)
+
+  number : Held w16 (ofZ w16 (coefficients (at .args .filter .now) (at .args .g + at .args .j))) (coefficients (at .args .filter .now) (at .args .g + at .args .j)) smallLimit
+  number = small-number w16 (at .pre .1 .window .1) (at .args .g + at .args .j) (at .pre .0 .0) (c .narrow-tap-arg .given)
+
+add-k : tie.Need-add-k
+add-k c = search needs
+
+mul-t : tie.Need-mul-t
+mul-t c = search needs
+
+array-copy-out-t : tie.Need-array-copy-out-t
+array-copy-out-t c = search needs
+
+array-copy-out-pair-at : tie.Need-array-copy-out-pair-at
+array-copy-out-pair-at c = search needs
+
+array-copy-out-pair-at-2 : tie.Need-array-copy-out-pair-at-2
+array-copy-out-pair-at-2 c = search needs
+
+pair-at-requires : tie.Need-pair-at-requires
+pair-at-requires c κs =
+    let s = c .before .before .before .before in
+    let w = s .pre .1 .window .0 in
+    (w .inside, tap-spot 4 pcConfig tt tt (lit≤ tt) (s .args .g + s .args .j) w (lit≤ tt) (lit< tt))
+
+cast-narrow-tap : tie.Need-cast-narrow-tap
+cast-narrow-tap c = search needs
+
+mul-narrow-tap : tie.Need-mul-narrow-tap
+mul-narrow-tap c = search needs
+
+element-copy-out-narrow-tap : tie.Need-element-copy-out-narrow-tap
+element-copy-out-narrow-tap c = search needs
+
+narrow-tap-requires : tie.Need-narrow-tap-requires
+narrow-tap-requires c κs =
+    let s = at c in
+    (rw (toZ-ofZ (s .fits .s)) (omega (arith, s .pre .1 .sum .bound)), rw (pair c .is) (pair c .bound), rw (number c .is) (number c .bound))
+
+returns : tie.Need-returns
+returns c =
+    let n = c .before in
+    let s = at n in
+    let p-is = pair-is 4 pcConfig tt tt (lit≤ tt) (s .args .g + s .args .j) (n .before .pair-at .ensures) in
+    let d-is = pair n .is ∙ (λ i. pos (p-is i)) in
+    stepped-by (s .pre .1) (s .fits .s) (c .narrow-tap .ok) (λ i. d-is i *ℤ number n .is i) (c .narrow-tap .ensures)
+
+pub pc-narrow-step-spec : {M : Type 1} → statement M
+pc-narrow-step-spec =
+    tie.close
+    (tie.spec
+    add-k
+    mul-t
+    array-copy-out-t
+    array-copy-out-pair-at
+    array-copy-out-pair-at-2
+    pair-at-requires
+    cast-narrow-tap
+    mul-narrow-tap
+    element-copy-out-narrow-tap
+    narrow-tap-requires
+    returns)

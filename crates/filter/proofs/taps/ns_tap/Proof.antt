@@ -1,0 +1,72 @@
+-- `filter::taps::ns_tap` meets its contract: the rules of `Held`, in the order of the code. Assumes nothing.
+use borrow.Author.Needs.{needs}
+use native.Mathlib.Omega.{arith}
+use Prim.Native.Nat.{_+_, _*_, _<_}
+use lib.Dec.{lit<, lit≤}
+use lib.IntN.{natAbs, pos, _-ℤ_, _*ℤ_}
+use mir.Syntax.{w8, w32}
+use mir.Val.{ofZ}
+use Rattle.laws.proofs.Held.{Held, subB, mulB, castB, natural, kept, typed, cast, cast-fits, plus, plus-fits, minus, minus-fits, times, times-fits}
+use Rattle.filter.proofs.taps.ns_tap.Statement.{statement}
+use Rattle.filter.proofs.taps.ns_tap.Tie as tie
+
+module _ (c : tie.Start) where
+  p : Held w32 (c .args .p) (pos (c .args .p)) 510
+  p = natural (omega arith) (lit< tt)
+
+  m : Held w32 (c .args .m) (pos (c .args .m)) 255
+  m = natural (omega arith) (lit< tt)
+
+  two : Held w32 2 (pos 2) 2
+  two = natural (lit≤ tt) (lit< tt)
+
+  by : Held w32 (castB w8 w32 (ofZ w8 (c .args .c))) (c .args .c) 128
+  by = cast w32 (typed (c .fits .c)) (lit< tt)
+
+  diff : Held w32 (subB w32 (c .args .p) (mulB w32 2 (c .args .m))) (pos (c .args .p) -ℤ pos (2 * c .args .m)) 1020
+  diff = minus p (times two m (lit< tt)) (lit< tt)
+
+  prod : Held w32 (mulB w32 (subB w32 (c .args .p) (mulB w32 2 (c .args .m))) (castB w8 w32 (ofZ w8 (c .args .c)))) ((pos (c .args .p) -ℤ pos (2 * c .args .m)) *ℤ c .args .c) 130560
+  prod = times diff by (lit< tt)
+
+  room : natAbs (c .args .s) + 130560 < 2147483648
+  room = omega (arith, c .pre)
+
+cast-result : tie.Need-cast-result
+cast-result c = search needs
+
+cast-result-2 : tie.Need-cast-result-2
+cast-result-2 c = search needs
+
+mul-result : tie.Need-mul-result
+mul-result c = times-fits (two c) (m c) (lit< tt)
+
+sub-result : tie.Need-sub-result
+sub-result c = minus-fits (p c) (times (two c) (m c) (lit< tt)) (lit< tt)
+
+cast-result-3 : tie.Need-cast-result-3
+cast-result-3 c = cast-fits w32 (typed (c .fits .c)) (lit< tt)
+
+mul-result-2 : tie.Need-mul-result-2
+mul-result-2 c = times-fits (diff c) (by c) (lit< tt)
+
+add-result : tie.Need-add-result
+add-result c = plus-fits (kept (c .fits .s)) (prod c) (room c)
+
+returns : tie.Need-returns
+returns c =
+    let r = plus (kept (c .fits .s)) (prod c) (room c) in
+    (r .is, rw (r .is) (r .bound))
+
+pub ns-tap-spec : {M : Type 1} → statement M
+ns-tap-spec =
+    tie.close
+    (tie.spec
+    cast-result
+    cast-result-2
+    mul-result
+    sub-result
+    cast-result-3
+    mul-result-2
+    add-result
+    returns)
