@@ -1,4 +1,4 @@
-/// The shapes of a filter's numbers: no divisor of another choice that goes round.
+/// How many shapes of filters there are: it has no divisor in common with the other choices that go round, so each meets each.
 #[cfg(feature = "linked")]
 pub(crate) const FILTER_SHAPES: usize = 11;
 
@@ -65,9 +65,8 @@ impl Random {
     }
 
     /// Numbers of one filter in `-limit - 1 ..= limit`, of the shape that is asked for, in turn: the least everywhere, the
-    /// greatest, zeros, these three mixed, any; then all within 12, within 21, within 22, all of size 21, these with one of
-    /// size 22, and few that are not 0. The port sums a filter whose numbers are within 21 in 16 bits, so both ways and the border between them
-    /// are met.
+    /// greatest, zeros, these three mixed, any; then within 12, within 21, within 22; all of size 21, these with one of size
+    /// 22, and all of size 22. The port sums a filter within 21 in 16 bits: both ways and the border between them are met.
     #[cfg(feature = "linked")]
     pub fn filter(&mut self, shape: usize, n: usize, limit: i64) -> Vec<i64> {
         let one = self.below(n);
@@ -84,7 +83,7 @@ impl Random {
                 8 => [-21, 21][self.below(2)],
                 9 if i == one => [-22, 22][self.below(2)],
                 9 => [-21, 21][self.below(2)],
-                _ => self.within(-4, 4) * self.below(2) as i64,
+                _ => [-22, 22][self.below(2)],
             })
             .collect()
     }
