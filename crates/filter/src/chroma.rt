@@ -309,7 +309,7 @@ pub fn uv_run(
     }
 }
 
-// The same by a small filter. The loop is one of its own: in one loop for both ways the compiler makes large filters slower.
+// The same by a small filter, in a loop of its own: one loop for both ways is slower.
 pub fn uv_narrow_run(
     dst: &mut [u8],
     rows: &[u8],
