@@ -29,7 +29,8 @@
 //!     compare refusals SEED COUNT   units and states at the limits of the table and past them, against a second reading of
 //!                                   the table
 //!     compare differences           the intended differences, each at a smallest input
-//!     compare bench                 nanoseconds of the Rust's scalar functions and of the port's
+//!     compare bench                 nanoseconds of the Rust's scalar functions and of the port's; filter runs by small filters, whose
+//!                                   numbers are within 21, and by large ones
 
 #[cfg(feature = "linked")]
 mod advances;
