@@ -9,11 +9,11 @@ use lib.Signed.{mag}
 use mir.Syntax.{Width, w8, w32}
 use mir.Val.{SFits, toZ, ofZ, hbits}
 use mir.Facts.{toZ-ofZ}
-use Rattle.definition.specs.Sample.{dyOf, dxOf, pairOf, centre, nsTap}
+use Rattle.definition.specs.Sample.{dyOf, dxOf, centre, nsTap}
 use Rattle.laws.proofs.Ints.{sfits-abs}
 use Rattle.laws.proofs.Tables.{all, near, near-at}
 use Rattle.laws.proofs.Sums.{begun, tapped, passed}
-use Rattle.filter.specs.Windows.{Window, Spot, PairAt, Summed}
+use Rattle.filter.specs.Windows.{Window, Spot, PairAt, TapPair, Summed}
 
 -- a tap within reach of a window
 pub spot : {first size reach mid : ℕ} {rows indices : List ℕ} {col : ℕ} {dy dx : ℤ} →
@@ -34,8 +34,8 @@ module _ (reach : ℕ) (taps : List (List ℤ)) (e : T (near reach [])) (t : T (
   tap-spot w u d =
       rw (dy-is, dx-is) (spot w (omega arith) (omega (arith, near-at reach taps e t k .0)) (omega (arith, near-at reach taps e t k .0)) (near-at reach taps e t k .1))
 
-  pub pair-is : {s : ℤ → ℤ → ℕ} {p : ℕ} → PairAt s (toZ w8 (ofZ w8 (dyOf taps k))) (toZ w8 (ofZ w8 (dxOf taps k))) p → p ≡ pairOf s taps k
-  pair-is {s} h = h .is ∙ (λ i. s (dy-is i) (dx-is i) + s (negℤ (dy-is i)) (negℤ (dx-is i)))
+  pub tap-pair : {s : ℤ → ℤ → ℕ} {p : ℕ} → PairAt s (toZ w8 (ofZ w8 (dyOf taps k))) (toZ w8 (ofZ w8 (dxOf taps k))) p → TapPair s taps k p
+  tap-pair {s} h = record { is = h .is ∙ (λ i. s (dy-is i) (dx-is i) + s (negℤ (dy-is i)) (negℤ (dx-is i))); bound = h .bound }
 
 module _ {W : Type 0} {C : ℤ} {f : ℕ → ℤ} {B D : ℕ} where
   -- before the first tap
@@ -61,18 +61,12 @@ module _ {W : Type 0} {C : ℤ} {f : ℕ → ℤ} {B D : ℕ} where
   stepped-by {w} {s = s} h fits ok e given = stepped h fits ok (given .0 ∙ ap (λ (t : ℤ). toZ w (ofZ w s) +ℤ t) e) (given .1)
 
 -- the luma and the chroma filter's own taps: a factor and a number as the machine holds them
-module _ (reach : ℕ) (taps : List (List ℤ)) (e : T (near reach [])) (t : T (all (near reach) taps)) (small : reach ≤ 4) where
-  pub ns-tap-is : (c : ℕ → ℤ) {at : ℤ → ℤ → ℕ} {k p m : ℕ} {d z : ℤ} → PairAt at (toZ w8 (ofZ w8 (dyOf taps k))) (toZ w8 (ofZ w8 (dxOf taps k))) p → m ≡ centre at →
-      d ≡ pos p -ℤ pos (2 * m) → z ≡ c k → d *ℤ z ≡ nsTap at c taps k
-  ns-tap-is c {k = k} pair m-is d-is z-is =
-      let p-is = pair-is reach taps e t small k pair in
-      (λ i. d-is i *ℤ z-is i) ∙ (λ i. (pos (p-is i) -ℤ pos (2 * m-is i)) *ℤ c k)
+module _ {at : ℤ → ℤ → ℕ} {taps : List (List ℤ)} (c : ℕ → ℤ) (k : ℕ) {p m : ℕ} (pair : TapPair at taps k p) (m-is : m ≡ centre at) where
+  pub ns-tap-is : {d z : ℤ} → d ≡ pos p -ℤ pos (2 * m) → z ≡ c k → d *ℤ z ≡ nsTap at c taps k
+  ns-tap-is d-is z-is = (λ i. d-is i *ℤ z-is i) ∙ (λ i. (pos (pair .is i) -ℤ pos (2 * m-is i)) *ℤ c k)
 
   -- one step of a sum of 32 bits
-  pub ns-stepped : (c : ℕ → ℤ) {W : Type 0} {C : ℤ} {at : ℤ → ℤ → ℕ} {B D k : ℕ} {s r : ℤ} {p m : ℕ} →
-      Summed W C (nsTap at c taps) B D k s → SFits w32 s → PairAt at (toZ w8 (ofZ w8 (dyOf taps k))) (toZ w8 (ofZ w8 (dxOf taps k))) p → m ≡ centre at →
-      mag (c k) < 2 ^ 7 → mag r < 2 ^ 31 →
+  pub ns-stepped : {W : Type 0} {C : ℤ} {B D : ℕ} {s r : ℤ} → Summed W C (nsTap at c taps) B D k s → SFits w32 s → mag (c k) < 2 ^ 7 → mag r < 2 ^ 31 →
       (r ≡ toZ w32 (ofZ w32 s) +ℤ (pos p -ℤ pos (2 * m)) *ℤ toZ w8 (ofZ w8 (c k))) × (natAbs r ≤ natAbs (toZ w32 (ofZ w32 s)) + D) →
       Summed W C (nsTap at c taps) B D (k + 1) (toZ w32 (ofZ w32 r))
-  ns-stepped c {k = k} h fits pair m-is c-fits ok given =
-      stepped-by h fits ok (ns-tap-is c {k = k} pair m-is refl (toZ-ofZ {w = w8} {z = c k} (record { sfits = c-fits }))) given
+  ns-stepped h fits c-fits ok given = stepped-by h fits ok (ns-tap-is refl (toZ-ofZ {w = w8} {z = c k} (record { sfits = c-fits }))) given

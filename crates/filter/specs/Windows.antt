@@ -38,6 +38,11 @@ pub record PairAt (s : ℤ → ℤ → ℕ) (dy dx : ℤ) (r : ℕ) : Type 0 whe
   pub is : r ≡ s dy dx + s (negℤ dy) (negℤ dx)
   pub bound : r ≤ pairLimit
 
+-- the pair of tap k of a table
+pub record TapPair (s : ℤ → ℤ → ℕ) (taps : List (List ℤ)) (k r : ℕ) : Type 0 where
+  pub is : r ≡ pairOf s taps k
+  pub bound : r ≤ pairLimit
+
 -- the bytes from `reach` before byte col to `reach` behind it lie in each of those rows
 pub record Window (first size reach : ℕ) (rows indices : List ℕ) (col : ℕ) : Type 0 where
   pub inside : Rows first size rows indices

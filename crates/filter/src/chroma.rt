@@ -4,16 +4,16 @@ ghost use Prim.Native.Nat.{ℕ, _+_, _*_, _^_, _<_, _≤_};
 ghost use lib.IntN.{pos, natAbs, _+ℤ_, _-ℤ_, _*ℤ_};
 ghost use lib.ListN.{length, getD};
 ghost use lib.Seq.{sets};
-ghost use Rattle.definition.specs.Rows.{tab};
+ghost use Rattle.definition.specs.Rows.{tab, chromaFlat};
+ghost use Rattle.definition.specs.Sample.{dyOf, dxOf, nsConfigUv, nsConfigUvFromY};
 ghost use Rattle.filter.specs.Runs.{uvStatus};
-ghost use Rattle.filter.specs.Windows.{OwnInside, Window, Eight, ChromaPartial};
+ghost use Rattle.filter.specs.Windows.{OwnInside, Window, Eight, ChromaPartial, TapPair};
 ghost use Rattle.filter.specs.Groups.{Small, ChromaGroup, FromLumaGroup};
 ghost use Rattle.filter.specs.Gathered.{every, Gatherable, Gathered, compactAt, compactSample, compactRun, FromLumaPartial};
 use crate::narrow::difference;
 use crate::narrow::narrow_tap;
 use crate::narrow::with_group;
-use crate::taps::ROW_BYTES;
-use crate::taps::byte_at;
+use crate::taps::centre_at;
 use crate::taps::moved;
 use crate::taps::ns_start;
 use crate::taps::ns_tap;
@@ -41,6 +41,16 @@ fn luma_tap(s: i32, v: u8, m: u8, c: i8) -> i32
     s + (v as i32 - m as i32) * c as i32
 }
 
+// The pair of tap k.
+fn uv_pair(rows: &[u8], indices: &[usize; 10], col: usize, k: usize) -> u32
+    requires { ⌜ Window 0 76 2 (now rows) (now indices) col ⌝ }
+    requires { ⌜ k < 6 ⌝ }
+    ensures { λ r. ⌜ TapPair (chromaFlat (now (rows .entry)) (now (indices .entry)) col) nsConfigUv k r ⌝ }
+{
+    let t = WIENER_NS_CONFIG_UV[k];
+    pair_at(rows, indices, 2, col, t[0], t[1])
+}
+
 // One tap more of the chroma filter's own six.
 fn uv_step(
     s: i32,
@@ -54,9 +64,8 @@ fn uv_step(
     requires { ⌜ ChromaPartial (now rows) (now indices) col (now filter) k s ⌝ }
     ensures { λ r. ⌜ ChromaPartial (now (rows .entry)) (now (indices .entry)) col (now (filter .entry)) (k + 1) r ⌝ }
 {
-    let t = WIENER_NS_CONFIG_UV[k];
-    let p = pair_at(rows, indices, 2, col, t[0], t[1]);
-    let m = byte_at(rows, indices, 0, ROW_BYTES, 2, col, 0, 0);
+    let p = uv_pair(rows, indices, col, k);
+    let m = centre_at(rows, indices, 2, col);
     ns_tap(s, p, m, filter[k])
 }
 
@@ -113,14 +122,22 @@ fn compact_at(compact: &[u8; 420], x: usize, dy: i8, dx: i8) -> u8
     compact[COMPACT_BYTES * row + moved(x + 2, dx)]
 }
 
+// The luma of tap k.
+fn uv_luma_at(compact: &[u8; 420], x: usize, k: usize) -> u8
+    requires { ⌜ (x < 80) × (k < 12) ⌝ }
+    ensures { λ r. ⌜ r ≡ compactAt (now (compact .entry)) x (dyOf nsConfigUvFromY k) (dxOf nsConfigUvFromY k) ⌝ }
+{
+    let t = WIENER_NS_CONFIG_UV_FROM_Y[k];
+    compact_at(compact, x, t[0], t[1])
+}
+
 // One tap more of its twelve of luma.
 fn uv_luma_step(s: i32, compact: &[u8; 420], x: usize, filter: &[i8; 18], k: usize) -> i32
     requires { ⌜ k < 12 ⌝ }
     requires { ⌜ FromLumaPartial (now compact) x (now filter) k s ⌝ }
     ensures { λ r. ⌜ FromLumaPartial (now (compact .entry)) x (now (filter .entry)) (k + 1) r ⌝ }
 {
-    let t = WIENER_NS_CONFIG_UV_FROM_Y[k];
-    let v = compact_at(compact, x, t[0], t[1]);
+    let v = uv_luma_at(compact, x, k);
     let m = compact_at(compact, x, 0, 0);
     let at = 6 + k;
     luma_tap(s, v, m, filter[at])
@@ -159,9 +176,8 @@ fn uv_narrow_step(
     ensures { λ r. ⌜ ChromaGroup (now (rows .entry)) (now (indices .entry)) col (now (filter .entry)) g (j + 1) r ⌝ }
 {
     let k = g + j;
-    let t = WIENER_NS_CONFIG_UV[k];
-    let p = pair_at(rows, indices, 2, col, t[0], t[1]);
-    let m = byte_at(rows, indices, 0, ROW_BYTES, 2, col, 0, 0);
+    let p = uv_pair(rows, indices, col, k);
+    let m = centre_at(rows, indices, 2, col);
     let d = difference(p, 2 * m as u32);
     narrow_tap(s, d, filter[k] as i16)
 }
@@ -180,8 +196,7 @@ fn uv_narrow_luma_step(
     ensures { λ r. ⌜ FromLumaGroup (now (compact .entry)) x (now (filter .entry)) g (j + 1) r ⌝ }
 {
     let k = g + j;
-    let t = WIENER_NS_CONFIG_UV_FROM_Y[k];
-    let v = compact_at(compact, x, t[0], t[1]);
+    let v = uv_luma_at(compact, x, k);
     let m = compact_at(compact, x, 0, 0);
     let d = difference(v as u32, m as u32);
     let at = 6 + k;

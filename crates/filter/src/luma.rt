@@ -4,20 +4,29 @@ ghost use mathlib.Core.Path.{_≡_};
 ghost use Prim.Native.Nat.{ℕ, _+_, _<_};
 ghost use lib.ListN.{getD};
 ghost use Rattle.definition.specs.Rows.{lumaFlat};
-ghost use Rattle.definition.specs.Sample.{limit8, lumaSample};
+ghost use Rattle.definition.specs.Sample.{limit8, lumaSample, nsConfigY};
 ghost use Rattle.filter.specs.Runs.{coefficients};
-ghost use Rattle.filter.specs.Windows.{Window, Eight, LumaPartial};
+ghost use Rattle.filter.specs.Windows.{Window, Eight, LumaPartial, TapPair};
 ghost use Rattle.filter.specs.Groups.{Small, LumaGroup};
 use crate::narrow::difference;
 use crate::narrow::narrow_tap;
 use crate::narrow::with_group;
-use crate::taps::ROW_BYTES;
-use crate::taps::byte_at;
+use crate::taps::centre_at;
 use crate::taps::ns_start;
 use crate::taps::ns_tap;
 use crate::taps::pair_at;
 use crate::taps::round_clip;
 use tables::WIENER_NS_CONFIG_Y;
+
+// The pair of tap k.
+fn y_pair(rows: &[u8], indices: &[usize; 10], col: usize, k: usize) -> u32
+    requires { ⌜ Window 0 76 4 (now rows) (now indices) col ⌝ }
+    requires { ⌜ k < 16 ⌝ }
+    ensures { λ r. ⌜ TapPair (lumaFlat (now (rows .entry)) (now (indices .entry)) col) nsConfigY k r ⌝ }
+{
+    let t = WIENER_NS_CONFIG_Y[k];
+    pair_at(rows, indices, 4, col, t[0], t[1])
+}
 
 // One tap more of the luma filter.
 fn y_step(
@@ -32,9 +41,8 @@ fn y_step(
     requires { ⌜ LumaPartial (now rows) (now indices) col (now filter) k s ⌝ }
     ensures { λ r. ⌜ LumaPartial (now (rows .entry)) (now (indices .entry)) col (now (filter .entry)) (k + 1) r ⌝ }
 {
-    let t = WIENER_NS_CONFIG_Y[k];
-    let p = pair_at(rows, indices, 4, col, t[0], t[1]);
-    let m = byte_at(rows, indices, 0, ROW_BYTES, 4, col, 0, 0);
+    let p = y_pair(rows, indices, col, k);
+    let m = centre_at(rows, indices, 4, col);
     ns_tap(s, p, m, filter[k])
 }
 
@@ -91,9 +99,8 @@ fn y_narrow_step(
     ensures { λ r. ⌜ LumaGroup (now (rows .entry)) (now (indices .entry)) col (now (filter .entry)) g (j + 1) r ⌝ }
 {
     let k = g + j;
-    let t = WIENER_NS_CONFIG_Y[k];
-    let p = pair_at(rows, indices, 4, col, t[0], t[1]);
-    let m = byte_at(rows, indices, 0, ROW_BYTES, 4, col, 0, 0);
+    let p = y_pair(rows, indices, col, k);
+    let m = centre_at(rows, indices, 4, col);
     let d = difference(p, 2 * m as u32);
     narrow_tap(s, d, filter[k] as i16)
 }

@@ -5,15 +5,14 @@ ghost use Prim.Native.Nat.{ℕ, _+_, _^_, _<_, _≤_};
 ghost use lib.IntN.{pos, natAbs, _+ℤ_, _-ℤ_, _*ℤ_};
 ghost use lib.ListN.{getD};
 ghost use Rattle.definition.specs.Rows.{lumaFlat};
-ghost use Rattle.definition.specs.Sample.{limit8, centre, pretrainedSample};
+ghost use Rattle.definition.specs.Sample.{limit8, centre, pretrainedSample, pcConfig};
 ghost use Rattle.filter.specs.Runs.{coefficients};
-ghost use Rattle.filter.specs.Windows.{Window, Eight, TakenOff, PretrainedPartial};
+ghost use Rattle.filter.specs.Windows.{Window, Eight, TakenOff, PretrainedPartial, TapPair};
 ghost use Rattle.filter.specs.Groups.{Small, NarrowPretrained, PretrainedGroup};
 use crate::narrow::is_large;
 use crate::narrow::narrow_tap;
 use crate::narrow::with_group;
-use crate::taps::ROW_BYTES;
-use crate::taps::byte_at;
+use crate::taps::centre_at;
 use crate::taps::pair_at;
 use crate::taps::round_clip;
 use tables::PC_WIENER_CONFIG;
@@ -24,6 +23,16 @@ fn pc_tap(s: i32, p: u32, c: i16) -> i32
     ensures { λ r. ⌜ (r ≡ s +ℤ (pos p -ℤ pos 255) *ℤ c) × (natAbs r ≤ natAbs s + 25067520) ⌝ }
 {
     s + (p as i32 - 255) * c as i32
+}
+
+// The pair of tap k.
+fn pc_pair(rows: &[u8], indices: &[usize; 10], col: usize, k: usize) -> u32
+    requires { ⌜ Window 0 76 4 (now rows) (now indices) col ⌝ }
+    requires { ⌜ k < 12 ⌝ }
+    ensures { λ r. ⌜ TapPair (lumaFlat (now (rows .entry)) (now (indices .entry)) col) pcConfig k r ⌝ }
+{
+    let t = PC_WIENER_CONFIG[k];
+    pair_at(rows, indices, 4, col, t[0], t[1])
 }
 
 // 255 times the numbers of a pretrained set but its last. A tap multiplies a pair less 255, which is of either sign: then the compiler multiplies 16 by 16 bits.
@@ -44,7 +53,7 @@ fn pc_centre(rows: &[u8], indices: &[usize; 10], col: usize, last: i16) -> i32
     requires { ⌜ Window 0 76 4 (now rows) (now indices) col ⌝ }
     ensures { λ r. ⌜ (r ≡ pos (centre (lumaFlat (now (rows .entry)) (now (indices .entry)) col)) *ℤ last) × (natAbs r ≤ 8355840) ⌝ }
 {
-    let m = byte_at(rows, indices, 0, ROW_BYTES, 4, col, 0, 0);
+    let m = centre_at(rows, indices, 4, col);
     m as i32 * last as i32
 }
 
@@ -70,8 +79,7 @@ fn pc_step(
     requires { ⌜ PretrainedPartial (now rows) (now indices) col (now filter) k s ⌝ }
     ensures { λ r. ⌜ PretrainedPartial (now (rows .entry)) (now (indices .entry)) col (now (filter .entry)) (k + 1) r ⌝ }
 {
-    let t = PC_WIENER_CONFIG[k];
-    let p = pair_at(rows, indices, 4, col, t[0], t[1]);
+    let p = pc_pair(rows, indices, col, k);
     pc_tap(s, p, filter[k])
 }
 
@@ -126,8 +134,7 @@ fn pc_narrow_step(
     ensures { λ r. ⌜ PretrainedGroup (now (rows .entry)) (now (indices .entry)) col (now (filter .entry)) g (j + 1) r ⌝ }
 {
     let k = g + j;
-    let t = PC_WIENER_CONFIG[k];
-    let p = pair_at(rows, indices, 4, col, t[0], t[1]);
+    let p = pc_pair(rows, indices, col, k);
     narrow_tap(s, p as i16, filter[k])
 }
 

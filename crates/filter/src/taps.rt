@@ -8,7 +8,7 @@ ghost use Rattle.definition.specs.Sample.{limit8, rounded, centre};
 ghost use Rattle.filter.specs.Runs.{runStatus};
 ghost use Rattle.filter.specs.Windows.{ownInside, Rows, Spot, PairAt};
 
-pub const ROW_BYTES: usize = 76;
+const ROW_BYTES: usize = 76;
 
 // v clipped to 0 .. 255, as an i32: so the compiler narrows with saturation.
 fn clipped(v: i32) -> i32
@@ -79,7 +79,7 @@ pub fn moved(at: usize, d: i8) -> usize
 }
 
 // The byte dy rows and dx columns from byte col of the row that index mid leads to.
-pub fn byte_at(
+fn byte_at(
     rows: &[u8],
     indices: &[usize; 10],
     first: usize,
@@ -95,6 +95,15 @@ pub fn byte_at(
 {
     let row = indices[moved(mid, dy)];
     rows[first + size * row + moved(col, dx)]
+}
+
+// The byte col of the row that index mid leads to: what the taps are taken around.
+pub fn centre_at(rows: &[u8], indices: &[usize; 10], mid: usize, col: usize) -> u8
+    requires { ⌜ Rows 0 76 (now rows) (now indices) ⌝ }
+    requires { ⌜ (mid < 10) × (col < 76) ⌝ }
+    ensures { λ r. ⌜ r ≡ centre (flatAround 0 76 mid (now (rows .entry)) (now (indices .entry)) col) ⌝ }
+{
+    byte_at(rows, indices, 0, ROW_BYTES, mid, col, 0, 0)
 }
 
 // The sum of the bytes at (+dy, +dx) and at (-dy, -dx) from byte col of the row that index mid leads to.
@@ -122,5 +131,5 @@ pub fn ns_start(rows: &[u8], indices: &[usize; 10], mid: usize, col: usize) -> i
     requires { ⌜ (mid < 10) × (col < 76) ⌝ }
     ensures { λ r. ⌜ (r ≡ pos (128 * centre (flatAround 0 76 mid (now (rows .entry)) (now (indices .entry)) col))) × (natAbs r ≤ 32640) ⌝ }
 {
-    128 * byte_at(rows, indices, 0, ROW_BYTES, mid, col, 0, 0) as i32
+    128 * centre_at(rows, indices, mid, col) as i32
 }

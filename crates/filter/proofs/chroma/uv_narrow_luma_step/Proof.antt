@@ -3,18 +3,15 @@ use borrow.Author.Needs.{needs}
 use native.Mathlib.Omega.{arith}
 use mathlib.Core.Path.{_∙_}
 use Prim.Native.Nat.{_+_}
-use lib.Dec.{lit<, lit≤}
+use lib.Dec.{lit<}
 use lib.IntN.{pos, _-ℤ_, _*ℤ_}
 use mir.Syntax.{w8, w16}
 use mir.Val.{ofZ}
 use mir.Facts.{toZ-ofZ}
-use Rattle.definition.specs.Sample.{nsConfigUvFromY}
 use Rattle.laws.proofs.Held.{Held, cast, cast-fits}
-use Rattle.laws.proofs.Tables.{near-at}
 use Rattle.filter.specs.Runs.{coefficients}
 use Rattle.filter.specs.Groups.{smallLimit}
-use Rattle.filter.specs.Gathered.{compactAt}
-use Rattle.filter.proofs.Steps.{dy-is, dx-is, stepped-by}
+use Rattle.filter.proofs.Steps.{stepped-by}
 use Rattle.filter.proofs.Groups.{small-number}
 use Rattle.filter.proofs.chroma.uv_narrow_luma_step.Statement.{statement}
 use Rattle.filter.proofs.chroma.uv_narrow_luma_step.Tie as tie
@@ -22,7 +19,7 @@ use Rattle.filter.proofs.chroma.uv_narrow_luma_step.Tie as tie
 -- the number of the filter
 module _ (c : tie.After-narrow-tap-arg) where
   abbrev at : tie.Start
-  at = c .before .before .before .before .before .before .before
+  at = c .before .before .before .before
 
   number : Held w8 (ofZ w8 (coefficients (at .args .filter .now) (6 + (at .args .g + at .args .j)))) (coefficients (at .args .filter .now) (6 + (at .args .g + at .args .j))) smallLimit
   number = small-number w8 (at .pre .1 .window .1) (6 + (at .args .g + at .args .j)) (omega (arith, at .pre .0 .0)) (c .narrow-tap-arg .given)
@@ -30,27 +27,11 @@ module _ (c : tie.After-narrow-tap-arg) where
 add-k : tie.Need-add-k
 add-k c = search needs
 
-mul-t : tie.Need-mul-t
-mul-t c = search needs
-
-array-copy-out-t : tie.Need-array-copy-out-t
-array-copy-out-t c = search needs
-
-array-copy-out-compact-at : tie.Need-array-copy-out-compact-at
-array-copy-out-compact-at c = search needs
-
-array-copy-out-compact-at-2 : tie.Need-array-copy-out-compact-at-2
-array-copy-out-compact-at-2 c = search needs
+uv-luma-at-requires : tie.Need-uv-luma-at-requires
+uv-luma-at-requires c κs = search needs
 
 compact-at-requires : tie.Need-compact-at-requires
-compact-at-requires c κs =
-    let s = c .before .before .before in
-    let k = s .args .g + s .args .j in
-    let t = near-at 2 nsConfigUvFromY tt tt k in
-    rw (dy-is 2 nsConfigUvFromY tt tt (lit≤ tt) k, dx-is 2 nsConfigUvFromY tt tt (lit≤ tt) k) (s .pre .1 .window .0, t .0, t .1)
-
-compact-at-requires-2 : tie.Need-compact-at-requires-2
-compact-at-requires-2 c κs = search needs
+compact-at-requires c κs = search needs
 
 cast-difference : tie.Need-cast-difference
 cast-difference c = search needs
@@ -80,13 +61,9 @@ returns : tie.Need-returns
 returns c =
     let n = c .before in
     let s = at n in
-    let a = s .args in
-    let k = a .g + a .j in
     let d = n .before .difference in
-    let y-is = dy-is 2 nsConfigUvFromY tt tt (lit≤ tt) k in
-    let x-is = dx-is 2 nsConfigUvFromY tt tt (lit≤ tt) k in
-    let v-is = n .before .before .before .compact-at .ensures ∙ (λ i. compactAt (a .compact .now) (a .x) (y-is i) (x-is i)) in
-    let m-is = n .before .before .compact-at2 .ensures in
+    let v-is = n .before .before .before .uv-luma-at .ensures in
+    let m-is = n .before .before .compact-at .ensures in
     let d-is = toZ-ofZ {w = w16} {z = d .result} (record { sfits = d .ok }) ∙ d .ensures .0 ∙ (λ i. pos (v-is i) -ℤ pos (m-is i)) in
     let z-is = cast w16 (number n) (lit< tt) .is in
     stepped-by (s .pre .1) (s .fits .s) (c .narrow-tap .ok) (λ i. d-is i *ℤ z-is i) (c .narrow-tap .ensures)
@@ -96,12 +73,8 @@ uv-narrow-luma-step-spec =
     tie.close
     (tie.spec
     add-k
-    mul-t
-    array-copy-out-t
-    array-copy-out-compact-at
-    array-copy-out-compact-at-2
+    uv-luma-at-requires
     compact-at-requires
-    compact-at-requires-2
     cast-difference
     cast-difference-2
     difference-requires

@@ -10,18 +10,18 @@ use Rattle.laws.proofs.Held.{Held, castB, natural, typed, cast, cast-fits, time
 use Rattle.filter.proofs.pretrained.pc_centre.Statement.{statement}
 use Rattle.filter.proofs.pretrained.pc_centre.Tie as tie
 
-module _ (c : tie.After-byte-at) where
+module _ (c : tie.After-centre-at) where
   abbrev start : tie.Start
   start = c .before .before
 
   by : Held w32 (castB w16 w32 (ofZ w16 (start .args .last))) (start .args .last) 32768
   by = cast w32 (typed (start .fits .last)) (lit< tt)
 
-  m : Held w32 (c .byte-at .result) (pos (c .byte-at .result)) 255
-  m = natural (omega (arith, c .byte-at .ok)) (lit< tt)
+  m : Held w32 (c .centre-at .result) (pos (c .centre-at .result)) 255
+  m = natural (omega (arith, c .centre-at .ok)) (lit< tt)
 
-byte-at-requires : tie.Need-byte-at-requires
-byte-at-requires c κs = search needs
+centre-at-requires : tie.Need-centre-at-requires
+centre-at-requires c κs = search needs
 
 cast-result : tie.Need-cast-result
 cast-result c = search needs
@@ -35,7 +35,7 @@ mul-result c = times-fits (m c) (by c) (lit< tt)
 returns : tie.Need-returns
 returns c =
     let r = times (m c) (by c) (lit< tt) in
-    (r .is ∙ (λ i. pos (c .byte-at .ensures i) *ℤ start c .args .last), rw (r .is) (r .bound))
+    (r .is ∙ (λ i. pos (c .centre-at .ensures i) *ℤ start c .args .last), rw (r .is) (r .bound))
 
 pub pc-centre-spec : {M : Type 1} → statement M
-pc-centre-spec = tie.close (tie.spec byte-at-requires cast-result cast-result-2 mul-result returns)
+pc-centre-spec = tie.close (tie.spec centre-at-requires cast-result cast-result-2 mul-result returns)

@@ -3,17 +3,16 @@ use borrow.Author.Needs.{needs}
 use native.Mathlib.Omega.{arith}
 use mathlib.Core.Path.{_∙_}
 use Prim.Native.Nat.{_+_}
-use lib.Dec.{lit<, lit≤}
+use lib.Dec.{lit<}
 use lib.IntN.{pos, _*ℤ_}
 use mir.Syntax.{w16}
 use mir.Val.{ofZ}
 use mir.Facts.{toZ-ofZ}
-use Rattle.definition.specs.Sample.{pcConfig}
 use Rattle.laws.proofs.Held.{Held, natural}
 use Rattle.filter.specs.Runs.{coefficients}
 use Rattle.filter.specs.Windows.{pairLimit}
 use Rattle.filter.specs.Groups.{smallLimit}
-use Rattle.filter.proofs.Steps.{tap-spot, pair-is, stepped-by}
+use Rattle.filter.proofs.Steps.{stepped-by}
 use Rattle.filter.proofs.Groups.{small-number}
 use Rattle.filter.proofs.pretrained.pc_narrow_step.Statement.{statement}
 use Rattle.filter.proofs.pretrained.pc_narrow_step.Tie as tie
@@ -21,10 +20,10 @@ use Rattle.filter.proofs.pretrained.pc_narrow_step.Tie as tie
 -- the pair and the number of the set
 module _ (c : tie.After-narrow-tap-arg) where
   abbrev at : tie.Start
-  at = c .before .before .before .before .before .before
+  at = c .before .before .before
 
-  pair : Held w16 (c .before .pair-at .result) (pos (c .before .pair-at .result)) pairLimit
-  pair = natural (c .before .pair-at .ensures .bound) (lit< tt)
+  pair : Held w16 (c .before .pc-pair .result) (pos (c .before .pc-pair .result)) pairLimit
+  pair = natural (c .before .pc-pair .ensures .bound) (lit< tt)
 
   number : Held w16 (ofZ w16 (coefficients (at .args .filter .now) (at .args .g + at .args .j))) (coefficients (at .args .filter .now) (at .args .g + at .args .j)) smallLimit
   number = small-number w16 (at .pre .1 .window .1) (at .args .g + at .args .j) (at .pre .0 .0) (c .narrow-tap-arg .given)
@@ -32,23 +31,8 @@ module _ (c : tie.After-narrow-tap-arg) where
 add-k : tie.Need-add-k
 add-k c = search needs
 
-mul-t : tie.Need-mul-t
-mul-t c = search needs
-
-array-copy-out-t : tie.Need-array-copy-out-t
-array-copy-out-t c = search needs
-
-array-copy-out-pair-at : tie.Need-array-copy-out-pair-at
-array-copy-out-pair-at c = search needs
-
-array-copy-out-pair-at-2 : tie.Need-array-copy-out-pair-at-2
-array-copy-out-pair-at-2 c = search needs
-
-pair-at-requires : tie.Need-pair-at-requires
-pair-at-requires c κs =
-    let s = c .before .before .before .before in
-    let w = s .pre .1 .window .0 in
-    (w .inside, tap-spot 4 pcConfig tt tt (lit≤ tt) (s .args .g + s .args .j) w (lit≤ tt) (lit< tt))
+pc-pair-requires : tie.Need-pc-pair-requires
+pc-pair-requires c κs = search needs
 
 cast-narrow-tap : tie.Need-cast-narrow-tap
 cast-narrow-tap c = search needs
@@ -68,8 +52,7 @@ returns : tie.Need-returns
 returns c =
     let n = c .before in
     let s = at n in
-    let p-is = pair-is 4 pcConfig tt tt (lit≤ tt) (s .args .g + s .args .j) (n .before .pair-at .ensures) in
-    let d-is = pair n .is ∙ (λ i. pos (p-is i)) in
+    let d-is = pair n .is ∙ (λ i. pos (n .before .pc-pair .ensures .is i)) in
     stepped-by (s .pre .1) (s .fits .s) (c .narrow-tap .ok) (λ i. d-is i *ℤ number n .is i) (c .narrow-tap .ensures)
 
 pub pc-narrow-step-spec : {M : Type 1} → statement M
@@ -77,11 +60,7 @@ pc-narrow-step-spec =
     tie.close
     (tie.spec
     add-k
-    mul-t
-    array-copy-out-t
-    array-copy-out-pair-at
-    array-copy-out-pair-at-2
-    pair-at-requires
+    pc-pair-requires
     cast-narrow-tap
     mul-narrow-tap
     element-copy-out-narrow-tap

@@ -10,14 +10,14 @@ use Rattle.laws.proofs.Held.{Held, natural, times, times-fits}
 use Rattle.filter.proofs.taps.ns_start.Statement.{statement}
 use Rattle.filter.proofs.taps.ns_start.Tie as tie
 
-middle : (c : tie.After-byte-at) → Held w32 (c .byte-at .result) (pos (c .byte-at .result)) 255
-middle c = natural (omega (arith, c .byte-at .ok)) (lit< tt)
+middle : (c : tie.After-centre-at) → Held w32 (c .centre-at .result) (pos (c .centre-at .result)) 255
+middle c = natural (omega (arith, c .centre-at .ok)) (lit< tt)
 
 weight : Held w32 128 (pos 128) 128
 weight = natural (lit≤ tt) (lit< tt)
 
-byte-at-requires : tie.Need-byte-at-requires
-byte-at-requires c κs = search needs
+centre-at-requires : tie.Need-centre-at-requires
+centre-at-requires c κs = search needs
 
 cast-result : tie.Need-cast-result
 cast-result c = search needs
@@ -28,7 +28,7 @@ mul-result c = times-fits weight (middle c) (lit< tt)
 returns : tie.Need-returns
 returns c =
     let h = times weight (middle c) (lit< tt) in
-    (h .is ∙ ap (λ (n : ℕ). pos (128 * n)) (c .byte-at .ensures), rw (h .is) (h .bound))
+    (h .is ∙ ap (λ (n : ℕ). pos (128 * n)) (c .centre-at .ensures), rw (h .is) (h .bound))
 
 pub ns-start-spec : {M : Type 1} → statement M
-ns-start-spec = tie.close (tie.spec byte-at-requires cast-result mul-result returns)
+ns-start-spec = tie.close (tie.spec centre-at-requires cast-result mul-result returns)
