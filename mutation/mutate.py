@@ -178,7 +178,7 @@ def program_sites(file, text):
 # ---- the definition
 
 ABOVE = ('samples laws model vectors intops bounds edges blocks history card_reader features padding qval class_index filter refusals units'
-         ' whole card_answer paused exports').split()
+         ' whole card_answer paused gihvendu').split()
 # the crates that lean on a file most: they are tried first, behind `samples`
 NEAREST = {'Card': 'card_reader card_answer', 'Refusals': 'model edges refusals', 'ClassIndex': 'qval class_index features model', 'Sample': 'model vectors filter',
            'Padding': 'model edges padding', 'Blocks': 'blocks vectors', 'Units': 'model vectors', 'Rows': 'blocks features padding', 'Numbers': 'intops qval'}

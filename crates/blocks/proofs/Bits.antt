@@ -1,4 +1,4 @@
--- Bits of a mask: the count of ones against the clear bits, and trailing zeros against the first set bit. Assumes nothing.
+-- Bits of a mask: the count of ones against the clear bits, and trailing zeros against the first set bit.
 use mathlib.Core.Path.{_≡_, refl, sym, ap, _∙_}
 use Prim.Native.Nat.{ℕ, zero, suc, _+_, _-_, _*_, _/_, _%_, _^_, _≤_, _<_}
 use native.Mathlib.Nat.{one-mul, mod-lt, div-one, not-suc-le-zero, le-of-suc-le-suc}

@@ -1,4 +1,4 @@
--- The first block of which a test holds (`firstOf`): where it lies, and how a walk finds it, block by block or by a jump over blocks that fail the test. Assumes nothing.
+-- The first block of which a test holds (`firstOf`): where it lies, and how a walk finds it, block by block or by a jump over blocks that fail the test.
 use mathlib.Core.Path.{_≡_, refl, sym, _∙_}
 use mathlib.Core.Bool.{Bool, true, false, cond, _||_}
 use Prim.Native.Nat.{ℕ, zero, suc, _+_, _-_, _≤_, _<_}

@@ -1,4 +1,4 @@
--- What the tests of a row of blocks say of its status. Assumes nothing.
+-- What the tests of a row of blocks say of its status.
 use mathlib.Core.Path.{_≡_, refl, sym}
 use Prim.Native.Nat.{ℕ, _≤_, _<_}
 use native.Mathlib.Nat.{le-refl}

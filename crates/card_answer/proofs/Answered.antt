@@ -1,4 +1,4 @@
--- What a card's struct says of its meaning, and the text that was put as its answer. Assumes nothing.
+-- What a card's struct says of its meaning, and the text that was put as its answer.
 use mathlib.Core.Path.{_≡_, refl, sym, ap, _∙_}
 use mathlib.Core.Logic.{_≢_}
 use mathlib.Core.Bool.{Bool, true, false, cond}

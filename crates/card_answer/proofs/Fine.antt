@@ -1,4 +1,4 @@
--- A card that means a unit has one of the right sizes; any other has a status that is not 0. Assumes nothing.
+-- A card that means a unit has one of the right sizes; any other has a status that is not 0.
 use mathlib.Core.Path.{_≡_, refl, sym, _∙_}
 use mathlib.Core.Bool.{Bool, true, false, cond, not}
 use mathlib.Core.List.{List, [], _∷_, _++_}

@@ -1,4 +1,4 @@
--- A card's unit is never declined, and what the whole-unit operation leaves is the plane that the definition gives. Assumes nothing.
+-- A card's unit is never declined, and what the whole-unit operation leaves is the plane that the definition gives.
 use mathlib.Core.Path.{_≡_, refl, sym, ap, _∙_}
 use mathlib.Core.Bool.{true, false, _&&_}
 use mathlib.Core.List.{List, []}

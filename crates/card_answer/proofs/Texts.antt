@@ -1,4 +1,4 @@
--- Texts that grow by a byte or by two digits, and how long they are at most. Assumes nothing.
+-- Texts that grow by a byte or by two digits, and how long they are at most.
 use mathlib.Core.Path.{_≡_, refl, sym, ap, _∙_}
 use mathlib.Core.Bool.{Bool, true, false, cond}
 use mathlib.Core.List.{List, [], _∷_, _++_}

@@ -1,4 +1,4 @@
--- An answer's text is inside the array that holds it. Assumes nothing.
+-- An answer's text is inside the array that holds it.
 use mathlib.Core.Path.{ap}
 use mathlib.Core.List.{List}
 use Prim.Native.Nat.{ℕ, _-_, _≤_}

@@ -1,6 +1,6 @@
 -- Laws of document 01's card. Its status is 0, 1, 2 or 14 and no other. A reading goes only so far behind the place where it starts, and only what stands that far
 -- decides it: `Local`, shown once for each way of putting readings together. So positions are small numbers, and the first 8,710 bytes of an input decide what it means.
--- Assumes nothing.
+--
 use mathlib.Core.Path.{_≡_, refl, sym, ap, _∙_, subst}
 use mathlib.Core.Logic.{_≢_}
 use mathlib.Core.Bool.{Bool, true, false, cond, not, _&&_, _||_}

@@ -1,4 +1,4 @@
--- What a card means, by what each of its lines was found to be: the steps of `meaning` and `meaningOfLists`, in their order. Assumes nothing.
+-- What a card means, by what each of its lines was found to be: the steps of `meaning` and `meaningOfLists`, in their order.
 use mathlib.Core.Path.{_≡_, refl, sym, ap, _∙_}
 use mathlib.Core.Bool.{true, false}
 use mathlib.Core.List.{List, _++_}

@@ -1,4 +1,4 @@
--- Laws of single readings. Assumes nothing.
+-- Laws of single readings.
 use mathlib.Core.Path.{_≡_, refl, sym, ap, _∙_, subst}
 use mathlib.Core.Bool.{Bool, true, false, cond}
 use mathlib.Core.List.{List, [], _∷_, _++_}

@@ -1,4 +1,4 @@
--- Rows that are read one behind the other stand one behind the other in a plane. Assumes nothing.
+-- Rows that are read one behind the other stand one behind the other in a plane.
 use mathlib.Core.Path.{_≡_, refl, sym, ap, _∙_}
 use mathlib.Core.List.{List, [], _∷_, _++_, append-assoc, append-nil}
 use Prim.Native.Nat.{ℕ, _+_, _*_, _-_, _≤_, _<_}

@@ -1,4 +1,4 @@
--- The skip sum written out, and the places of its rows. Assumes nothing.
+-- The skip sum written out, and the places of its rows.
 use mathlib.Core.Path.{_≡_, _∙_}
 use mathlib.Core.List.{List}
 use Prim.Native.Nat.{ℕ, _+_, _-_, _*_, _<_, _≤_, min}

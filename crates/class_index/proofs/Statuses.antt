@@ -1,4 +1,4 @@
--- What it says that a status is 0, and what the answers are then and else. Assumes nothing.
+-- What it says that a status is 0, and what the answers are then and else.
 use mathlib.Core.Path.{_≡_, refl}
 use mathlib.Core.Bool.{true, cond, _||_, not}
 use mathlib.Core.List.{List}

@@ -1,4 +1,4 @@
--- A bend by the places of its three samples, in any direction; and a feature by the sums down its columns. Assumes nothing.
+-- A bend by the places of its three samples, in any direction; and a feature by the sums down its columns.
 use mathlib.Core.Path.{_≡_, refl, sym, ap, _∙_}
 use mathlib.Core.List.{List}
 use Prim.Native.Nat.{ℕ, suc, _+_, _-_, _*_, _<_}

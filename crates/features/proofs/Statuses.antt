@@ -1,4 +1,4 @@
--- What a status of 0 says, and what is answered then and else. Assumes nothing.
+-- What a status of 0 says, and what is answered then and else.
 use mathlib.Core.Path.{_≡_, refl}
 use mathlib.Core.Bool.{Bool, true, _&&_}
 use mathlib.Core.List.{List, [], _∷_}

@@ -1,4 +1,4 @@
--- Sums: term by term, of two rules, and of rows and columns in either order. Assumes nothing.
+-- Sums: term by term, of two rules, and of rows and columns in either order.
 use mathlib.Core.Path.{_≡_, refl, _∙_}
 use Prim.Native.Nat.{ℕ, zero, suc, _+_, _<_}
 use native.Mathlib.Omega.{arith}

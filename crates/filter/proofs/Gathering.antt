@@ -1,4 +1,4 @@
--- Luma that is gathered at chroma's resolution: the taps of the gathered rows are those of luma's own. Assumes nothing.
+-- Luma that is gathered at chroma's resolution: the taps of the gathered rows are those of luma's own.
 use mathlib.Core.Path.{_≡_, ap, _∙_}
 use mathlib.Core.List.{List}
 use Prim.Native.Nat.{ℕ, suc, _+_, _-_, _*_, _≤_, _<_}

@@ -1,4 +1,4 @@
--- Taps of a small filter, summed in groups, and the groups' sums added up: the laws hold at any width. Assumes nothing.
+-- Taps of a small filter, summed in groups, and the groups' sums added up: the laws hold at any width.
 use mathlib.Core.Path.{_≡_, refl, sym, ap, subst, _∙_}
 use mathlib.Core.List.{List}
 use mathlib.Core.Bool.{false}

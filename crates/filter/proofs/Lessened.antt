@@ -1,4 +1,4 @@
--- A pretrained filter whose pairs are each less 255: what is taken off, 255 times its numbers, gives the filter's own sum back. Assumes nothing.
+-- A pretrained filter whose pairs are each less 255: what is taken off, 255 times its numbers, gives the filter's own sum back.
 use mathlib.Core.Path.{_≡_, sym, ap, ap₂, subst, _∙_}
 use mathlib.Core.List.{List}
 use Prim.Native.Nat.{ℕ, zero, suc, _+_, _-_}

@@ -1,4 +1,4 @@
--- What a status of 0 says: each test passed, so the runs stay inside. Assumes nothing.
+-- What a status of 0 says: each test passed, so the runs stay inside.
 use mathlib.Core.Path.{_≡_}
 use mathlib.Core.Bool.{true, _&&_}
 use mathlib.Core.List.{List}

@@ -1,4 +1,4 @@
--- What the taps of the four filters share: where a tap of a table leads, and a sum with one tap more. Assumes nothing.
+-- What the taps of the four filters share: where a tap of a table leads, and a sum with one tap more.
 use mathlib.Core.Path.{_≡_, refl, sym, ap, subst, _∙_}
 use mathlib.Core.List.{List, []}
 use Prim.Native.Nat.{ℕ, _+_, _*_, _^_, _≤_, _<_}

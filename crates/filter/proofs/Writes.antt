@@ -1,4 +1,4 @@
--- What the three runs share: a loop that stores f 0, f 1, .. from the start of the destination on, and what is left of it at the end. Assumes nothing.
+-- What the three runs share: a loop that stores f 0, f 1, .. from the start of the destination on, and what is left of it at the end.
 use mathlib.Core.Path.{_≡_, refl, ap, _∙_}
 use mathlib.Core.List.{List}
 use Prim.Native.Nat.{ℕ, zero, suc, _+_, _≤_, _<_, zero-le}

@@ -1,5 +1,5 @@
 -- A unit that is restored in many advances, whatever its kind, and the one theorem of any history of it.
--- Assumes nothing.
+--
 use mathlib.Core.Path.{_≡_, refl, _∙_}
 use mathlib.Core.Bool.{Bool, true, false, cond, _&&_}
 use mathlib.Core.List.{List, [], _∷_}

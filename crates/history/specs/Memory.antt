@@ -3,7 +3,7 @@
 --     ring         a ring of padded rows
 --     both         two memories side by side: chroma's two rings
 --     one          with any memory and any filter of one sample, the step of one row is lawful: what `Steps` asks of a kind
--- Assumes nothing.
+--
 use mathlib.Core.Path.{_≡_, refl, sym, _∙_, ap, subst}
 use mathlib.Core.Bool.{Bool, true}
 use mathlib.Core.List.{List}

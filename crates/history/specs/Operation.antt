@@ -1,5 +1,5 @@
 -- An advance over any state, whatever the kind of unit: declined by its status, else so many rows or all that remain.
--- What a kind has to show of itself for the theorem of its histories. Assumes nothing.
+-- What a kind has to show of itself for the theorem of its histories.
 use mathlib.Core.Path.{_≡_, refl, sym, _∙_, ap}
 use mathlib.Core.Bool.{Bool, true}
 use mathlib.Core.List.{List}

@@ -1,4 +1,4 @@
--- A ring of padded rows: rows in one flat list, reached by row indices, the newest put into the next slot. Assumes nothing.
+-- A ring of padded rows: rows in one flat list, reached by row indices, the newest put into the next slot.
 use mathlib.Core.Path.{_≡_, refl, sym, _∙_, ap}
 use mathlib.Core.Bool.{Bool, true, false, cond}
 use mathlib.Core.List.{List, [], _∷_, _++_}

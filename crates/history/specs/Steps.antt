@@ -1,4 +1,4 @@
--- An advance is so many steps of one row: what one step shows, any number shows. Assumes nothing.
+-- An advance is so many steps of one row: what one step shows, any number shows.
 use mathlib.Core.Path.{_≡_, refl, sym, _∙_}
 use mathlib.Core.List.{List}
 use Prim.Native.Nat.{ℕ, zero, suc, _+_, _*_, _-_, _≤_, _<_}

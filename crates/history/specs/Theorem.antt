@@ -1,4 +1,4 @@
--- ONE THEOREM FOR EVERY KIND OF UNIT. A kind gives an operation over any state, a memory, and a filter of one sample. Assumes nothing.
+-- ONE THEOREM FOR EVERY KIND OF UNIT. A kind gives an operation over any state, a memory, and a filter of one sample.
 use mathlib.Core.Path.{_≡_, refl, sym, _∙_}
 use mathlib.Core.Bool.{true}
 use mathlib.Core.List.{List}

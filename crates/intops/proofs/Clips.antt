@@ -1,4 +1,4 @@
--- Numbers of one width, read back from their bits: what the tests of a clip give. Assumes nothing.
+-- Numbers of one width, read back from their bits: what the tests of a clip give.
 use mathlib.Core.Path.{_≡_, sym}
 use mathlib.Core.Bool.{false}
 use native.Mathlib.Omega.{arith}

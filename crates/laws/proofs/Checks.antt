@@ -1,4 +1,4 @@
--- Conditions in a row, each with its number (`lowest`): what a status of 0 says of each, and two lists of them one behind the other. Assumes nothing.
+-- Conditions in a row, each with its number (`lowest`): what a status of 0 says of each, and two lists of them one behind the other.
 use mathlib.Core.Path.{_≡_, refl}
 use mathlib.Core.Bool.{Bool, true, false}
 use mathlib.Core.List.{List, [], _∷_, _++_}

@@ -1,6 +1,6 @@
 -- What a signed local of width w holds: `Held w n z B` says that the bits n are those of the integer z, which is at most B from 0.
 -- A rule for each cast and each operation: that the machine's check passes (`-fits`), and what the result holds. The bounds add and
--- multiply, so a side condition is a comparison of literals, or `omega`'s. Assumes nothing.
+-- multiply, so a side condition is a comparison of literals, or `omega`'s.
 use mathlib.Core.Path.{_≡_, _∙_}
 use Prim.Native.Nat.{ℕ, _+_, _*_, _^_, _<_, _≤_}
 use native.Mathlib.Nat.{le-refl, le-trans, lt-of-le-of-lt, add-le-add}

@@ -1,5 +1,5 @@
 -- Bounds on integers, by their absolute value, and what the machine reads back from their bits.
--- Assumes nothing.
+--
 use mathlib.Core.Path.{_≡_, refl, ap}
 use mathlib.Core.Bool.{Bool, true, false, not, cond}
 use Prim.Native.Nat.{ℕ, zero, suc, _+_, _-_, _*_, _^_, _<_, _≤_, suc-le-suc}

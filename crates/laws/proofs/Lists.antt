@@ -1,4 +1,4 @@
--- Lists: a run of elements put at a place (`sets` of lib.Seq), and a list made by a rule (`tab`). Assumes nothing.
+-- Lists: a run of elements put at a place (`sets` of lib.Seq), and a list made by a rule (`tab`).
 use mathlib.Core.Path.{_≡_, refl, sym, _∙_, ap, ap₂}
 use mathlib.Core.List.{List, [], _∷_}
 use Prim.Native.Nat.{ℕ, zero, suc, _+_, _≤_, _<_, suc-le-suc, zero-le}

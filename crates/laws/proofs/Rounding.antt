@@ -1,5 +1,5 @@
 -- Rounding by a shift of 7 and clipping to 0 .. limit, the fact that the three filters share: what the tests of the code say, and what the
--- machine holds of (s + 64) >> 7. Assumes nothing.
+-- machine holds of (s + 64) >> 7.
 use mathlib.Core.Path.{_≡_, sym, ap, _∙_}
 use mathlib.Core.Bool.{true, false}
 use Prim.Native.Nat.{ℕ, _^_, _<_, _≤_}

@@ -1,5 +1,5 @@
 -- A sum that is taken tap by tap: after k taps it is C + f 0 + .. + f (k - 1). Each tap adds at most D to a bound that starts at B.
--- One law for the taps of luma, of chroma, of chroma's luma and of the pretrained filters: they differ in C, f and the two bounds. Assumes nothing.
+-- One law for the taps of luma, of chroma, of chroma's luma and of the pretrained filters: they differ in C, f and the two bounds.
 use mathlib.Core.Path.{_≡_, sym, ap, subst, _∙_}
 use Prim.Native.Nat.{ℕ, _+_, _*_, _^_, _<_, _≤_}
 use native.Mathlib.Omega.{arith}

@@ -1,4 +1,4 @@
--- A table's rule at each of its places, from one test that antt computes over the whole table. Assumes nothing.
+-- A table's rule at each of its places, from one test that antt computes over the whole table.
 use mathlib.Core.Bool.{Bool, true, _&&_}
 use mathlib.Core.List.{List, [], _∷_}
 use Prim.Native.Nat.{ℕ, zero, suc, _≤_}

@@ -1,4 +1,4 @@
--- Tests on numbers that agree. Assumes nothing.
+-- Tests on numbers that agree.
 use mathlib.Core.Path.{_≡_, sym, _∙_}
 use Prim.Native.Nat.{ℕ, _≤_}
 use native.Mathlib.Decide.{decLe}

@@ -1,4 +1,4 @@
--- Class indices that agree: the features look at eight rows and columns, from two before the block's first sample on. Assumes nothing.
+-- Class indices that agree: the features look at eight rows and columns, from two before the block's first sample on.
 use mathlib.Core.Path.{_≡_, refl, sym, _∙_}
 use mathlib.Core.List.{List}
 use Prim.Native.Nat.{ℕ, zero, suc, _+_, _*_, _<_}

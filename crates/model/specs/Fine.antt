@@ -1,4 +1,4 @@
--- What a status of 0 says of a unit: each line of the table, turned round. Assumes nothing.
+-- What a status of 0 says of a unit: each line of the table, turned round.
 use mathlib.Core.Path.{_≡_}
 use mathlib.Core.Bool.{Bool, true, false, not, _&&_, _||_}
 use Prim.Native.Nat.{ℕ, zero, suc, _+_, _*_, _-_, _%_, _≤_, _<_}

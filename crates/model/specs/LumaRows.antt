@@ -1,5 +1,5 @@
 -- The luma rows of a chroma unit as its second ring holds them: row R stands beside chroma row R - 2. They are padded from what is lent alone.
--- The laws: what a repeated row is, the rule of their ring, and that the rows seen from a sample are the definition's. Assumes nothing.
+-- The laws: what a repeated row is, the rule of their ring, and that the rows seen from a sample are the definition's.
 use mathlib.Core.Path.{_≡_, refl, _∙_, ap, subst}
 use mathlib.Core.Bool.{Bool, true, false, cond, _&&_, _||_}
 use mathlib.Core.List.{List}

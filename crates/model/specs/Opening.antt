@@ -1,4 +1,4 @@
--- The ring that an opening fills: rows 0 .. m - 1 of it, those that are padded anew each in the slot of its number, and indices that lead to them. Assumes nothing.
+-- The ring that an opening fills: rows 0 .. m - 1 of it, those that are padded anew each in the slot of its number, and indices that lead to them.
 use mathlib.Core.Path.{_≡_, refl, sym, _∙_}
 use mathlib.Core.Bool.{Bool, true, false, cond}
 use mathlib.Core.List.{List, _++_}

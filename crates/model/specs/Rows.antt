@@ -1,6 +1,6 @@
 -- Padded rows as a ring holds them, for luma, classed and chroma units alike: row R stands for the unit's row R - e, e the border.
 -- A row is padded anew (`own`) from `first` to before `last`; the rows above and below repeat the first and the last of these.
--- The laws: what a repeated row is, and that a row is padded from nothing before the row that is restored next. Assumes nothing.
+-- The laws: what a repeated row is, and that a row is padded from nothing before the row that is restored next.
 use mathlib.Core.Path.{_≡_, refl, sym, _∙_, ap}
 use mathlib.Core.Bool.{Bool, true, false, cond}
 use mathlib.Core.List.{List}

@@ -1,5 +1,5 @@
 -- What a filter sees: a list of padded rows, `around` which each sample is restored. A filter's sample over the flat rows of a ring is the one over the
--- list of its window's rows, and over the rows of the plane at the opening it is the definition's. Assumes nothing.
+-- list of its window's rows, and over the rows of the plane at the opening it is the definition's.
 use mathlib.Core.Path.{_≡_, refl, sym, _∙_, ap}
 use mathlib.Core.List.{List, []}
 use Prim.Native.Nat.{ℕ, zero, suc, _+_, _*_, _-_, _≤_, _<_}

@@ -1,4 +1,4 @@
--- Columns before, in and behind a row, counted from the first padded one: a column j of e + w + e is the row's column j - e. Assumes nothing.
+-- Columns before, in and behind a row, counted from the first padded one: a column j of e + w + e is the row's column j - e.
 use mathlib.Core.Path.{_≡_, refl, sym, ap, _∙_}
 use mathlib.Core.Bool.{Bool, true, false, cond}
 use mathlib.Core.List.{List}

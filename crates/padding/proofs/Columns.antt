@@ -1,4 +1,4 @@
--- What stands at a luma column, by vertical subsampling and kind: the tests of the code against the clauses of the definition. Assumes nothing.
+-- What stands at a luma column, by vertical subsampling and kind: the tests of the code against the clauses of the definition.
 use mathlib.Core.Path.{_≡_, refl, sym, _∙_}
 use mathlib.Core.Bool.{true, cond}
 use Prim.Native.Nat.{ℕ, zero, suc, _+_, _-_, _/_, _%_, _≤_, _<_}

@@ -1,4 +1,4 @@
--- A loop that fills columns, every second one where only the even ones are filled: one step more. Assumes nothing.
+-- A loop that fills columns, every second one where only the even ones are filled: one step more.
 use mathlib.Core.Path.{_≡_, refl, sym, _∙_}
 use mathlib.Core.Bool.{Bool, true, false, cond, _&&_}
 use mathlib.Core.List.{List}

@@ -1,4 +1,4 @@
--- The luma row of a chroma unit: the columns that are lent, then the borders that repeat, are one row of padded columns. Assumes nothing.
+-- The luma row of a chroma unit: the columns that are lent, then the borders that repeat, are one row of padded columns.
 use mathlib.Core.Path.{_≡_, refl, sym, ap, _∙_}
 use mathlib.Core.Bool.{Bool, true, false, cond, _&&_}
 use mathlib.Core.List.{List, [], _∷_}

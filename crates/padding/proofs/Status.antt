@@ -1,4 +1,4 @@
--- What a status of 0 says of the numbers of a call, and what is left where a call is refused. Assumes nothing.
+-- What a status of 0 says of the numbers of a call, and what is left where a call is refused.
 use mathlib.Core.Path.{_≡_, refl, sym, ap}
 use mathlib.Core.Bool.{Bool, true, false, not, _&&_, _||_, and-true, and-false}
 use mathlib.Core.List.{List}

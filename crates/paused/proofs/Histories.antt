@@ -1,4 +1,4 @@
--- The history of a unit that is broken off, written over and restored to its end, and what demand 3 says of it. Assumes nothing.
+-- The history of a unit that is broken off, written over and restored to its end, and what demand 3 says of it.
 use mathlib.Core.Path.{_≡_, refl, sym, _∙_, ap}
 use mathlib.Core.Bool.{cond}
 use mathlib.Core.List.{List}

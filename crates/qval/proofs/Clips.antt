@@ -1,4 +1,4 @@
--- Clipping and picking, for numbers that are not negative. Assumes nothing.
+-- Clipping and picking, for numbers that are not negative.
 use mathlib.Core.Path.{_≡_, refl, ap, _∙_}
 use mathlib.Core.Bool.{cond}
 use Prim.Native.Nat.{ℕ, zero, suc, _+_, _-_, _/_, _≤_, min}

@@ -1,4 +1,4 @@
--- The arithmetic of a term: the division by 8,192, by the sign of what is divided; and what the machine holds of the tables. Assumes nothing.
+-- The arithmetic of a term: the division by 8,192, by the sign of what is divided; and what the machine holds of the tables.
 use mathlib.Core.Path.{_≡_, refl, sym, _∙_, ap}
 use mathlib.Core.Bool.{Bool, true, false}
 use mathlib.Core.List.{[]}

@@ -1,4 +1,4 @@
--- What holds of a kind of unit, by one test on its operation. Assumes nothing.
+-- What holds of a kind of unit, by one test on its operation.
 use mathlib.Core.Path.{_≡_, sym}
 use mathlib.Core.Bool.{true, false}
 use Rattle.definition.specs.Units.{Operation, luma, user, pretrained, chroma}

@@ -1,4 +1,4 @@
--- Tests over a whole list (`every`), by its places: a loop stops at the first that fails. Assumes nothing.
+-- Tests over a whole list (`every`), by its places: a loop stops at the first that fails.
 use mathlib.Core.Path.{_≡_, refl, sym, _∙_}
 use mathlib.Core.Bool.{Bool, true, false, and-false}
 use mathlib.Core.List.{List, [], _∷_}

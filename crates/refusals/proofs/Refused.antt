@@ -1,4 +1,4 @@
--- The table of refusals as the code works it out: by the operation's number, by two tests on the operation, and row counts by differences. Assumes nothing.
+-- The table of refusals as the code works it out: by the operation's number, by two tests on the operation, and row counts by differences.
 use mathlib.Core.Path.{_≡_, refl, sym}
 use mathlib.Core.Bool.{Bool, true, false, cond, not, _&&_, _||_}
 use Prim.Native.Nat.{ℕ, zero, suc, _+_, _*_, _-_, _/_, _%_, _≤_, _<_}
@@ -13,7 +13,7 @@ use Rattle.definition.specs.Units.{Operation, luma, user, pretrained, chroma, b
 use Rattle.definition.specs.Refusals.{Sizes, lowest, outside, badSampling, rightOf, badLumaStride, badPair, badNoskip, badFilters, badLuma, badMapOf}
 use Rattle.laws.proofs.Checks.{clear}
 use Rattle.model.specs.Fine.{is-sized}
-use Rattle.edges.specs.Operations.{operationOf}
+use Rattle.operations.specs.Operations.{operationOf}
 use Rattle.refusals.specs.Given.{badMapLists}
 use Rattle.refusals.proofs.Chosen.{when-chroma, unless-chroma, when-classed, unless-classed}
 use Rattle.refusals.specs.Table.{chromatic, classed, firstChecks, Within}

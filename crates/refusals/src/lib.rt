@@ -8,12 +8,12 @@ ghost use lib.ListN.{length};
 ghost use Rattle.definition.specs.Units.{chroma, setSize};
 ghost use Rattle.definition.specs.Refusals.{unitStatus, lowest, every, firstPass, badShape, badKept, indexLimit, nextLimit, sized, outside, bottomRows, badStride, badPair, badPlane, badLeft, badTop, badBottom, badMasks, badFilters, lumaAbove, lumaDown, lumaTopRows, lumaOutside, badLuma};
 ghost use Rattle.refusals.specs.Given.{givenOf, sizesGiven, badMapLists};
-ghost use Rattle.edges.specs.Operations.{operationOf};
+ghost use Rattle.operations.specs.Operations.{operationOf};
 ghost use Rattle.refusals.specs.Table.{chromatic, classed, firstChecks, laterChecks, highest, LumaWithin, Within};
 use bounds::room;
-use edges::border_of;
-use edges::is_set;
-use edges::top_rows;
+use operations::border_of;
+use operations::is_set;
+use operations::top_rows;
 
 // The lengths of all that is lent, and whether a class map is wrong.
 pub struct Sizes {

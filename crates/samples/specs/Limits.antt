@@ -1,4 +1,4 @@
--- Document 01's table of refusals at its limits: the status of the definition beside the number that the table gives. One proof that antt computes. Assumes nothing.
+-- Document 01's table of refusals at its limits: the status of the definition beside the number that the table gives. One proof that antt computes.
 use mathlib.Core.Bool.{Bool, true, false, _&&_}
 use mathlib.Core.List.{List, [], _∷_}
 use mathlib.Core.Path.{_≡_, refl}

@@ -1,4 +1,4 @@
--- Document 01's starred samples: what the definition gives beside what document 01 says, one table under one proof that antt computes. Assumes nothing.
+-- Document 01's starred samples: what the definition gives beside what document 01 says, one table under one proof that antt computes.
 use mathlib.Core.Bool.{Bool, true, false, cond, _&&_}
 use mathlib.Core.List.{List, [], _∷_}
 use mathlib.Core.Path.{_≡_, refl}

@@ -1,4 +1,4 @@
--- The status of an advance, whatever the kind of unit: what decides it, and what a status of 0 says of the state and of what is lent. Assumes nothing.
+-- The status of an advance, whatever the kind of unit: what decides it, and what a status of 0 says of the state and of what is lent.
 use mathlib.Core.Path.{_≡_}
 use mathlib.Core.Bool.{Bool, true, false, not, _||_}
 use mathlib.Core.List.{List}
@@ -12,7 +12,7 @@ use Rattle.definition.specs.Units.{Operation, setSize, Given, Lent}
 use Rattle.definition.specs.Refusals.{Sizes, sizesOf, unitStatus, badShape, badKept, badFilters, indexLimit, nextLimit, indicesUpTo}
 use Rattle.laws.proofs.Passes.{pass-at, not-both, first-clear}
 use Rattle.model.specs.Fine.{Fine, fine}
-use Rattle.edges.specs.Operations.{operationOf}
+use Rattle.operations.specs.Operations.{operationOf}
 use Rattle.refusals.specs.Given.{givenOf}
 use Rattle.refusals.specs.Table.{classed}
 use Rattle.refusals.proofs.Chosen.{unless-classed}

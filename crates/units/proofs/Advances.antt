@@ -1,4 +1,4 @@
--- An advance of any kind: so many steps, served or declined. Assumes nothing.
+-- An advance of any kind: so many steps, served or declined.
 use mathlib.Core.Path.{_≡_, refl, sym, _∙_, ap}
 use mathlib.Core.List.{List}
 use Prim.Native.Nat.{ℕ, zero, suc, _+_, _-_, _/_, min}

@@ -1,4 +1,4 @@
--- A chroma unit's opening, made of its rows. Assumes nothing.
+-- A chroma unit's opening, made of its rows.
 use mathlib.Core.Path.{_≡_, refl, sym, _∙_, ap}
 use mathlib.Core.Bool.{Bool, true, false, cond}
 use mathlib.Core.List.{List, [], _++_}

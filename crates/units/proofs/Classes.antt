@@ -1,4 +1,4 @@
--- The class of a block: its index is in the map, the call for it is not refused, and a class is below what all subclasses are below. Assumes nothing.
+-- The class of a block: its index is in the map, the call for it is not refused, and a class is below what all subclasses are below.
 use mathlib.Core.Path.{_≡_, refl, _∙_}
 use mathlib.Core.Bool.{true}
 use mathlib.Core.List.{List}

@@ -1,4 +1,4 @@
--- A set of numbers copied out of a list one by one: the first k of `size`, from number `at` on, are there. Assumes nothing.
+-- A set of numbers copied out of a list one by one: the first k of `size`, from number `at` on, are there.
 use mathlib.Core.Path.{_≡_, _∙_}
 use mathlib.Core.List.{List}
 use Prim.Native.Nat.{ℕ, _+_, _≤_, _<_}

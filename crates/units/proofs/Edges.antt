@@ -1,4 +1,4 @@
--- The rows above and below a unit by the bits of its edges. Assumes nothing.
+-- The rows above and below a unit by the bits of its edges.
 use mathlib.Core.Path.{_≡_, refl, sym, _∙_}
 use mathlib.Core.Bool.{Bool, true, false, cond, _||_}
 use Prim.Native.Nat.{ℕ, suc, _+_, _-_, _≤_, _<_, min}
@@ -7,7 +7,7 @@ use Rattle.definition.specs.Padding.{hasTop, hasBottom, topIntegrated, bottomIn
 use Rattle.definition.specs.Units.{Operation, luma, user, pretrained, chroma, border, savedAbove}
 use Rattle.definition.specs.Refusals.{topRows, bottomRows, planeRows}
 use Rattle.model.specs.Rows.{belowRows}
-use Rattle.edges.proofs.Borders.{border-low, top-rows}
+use Rattle.operations.proofs.Borders.{border-low, top-rows}
 
 module _ (op : Operation) (edges : ℕ) where
   pub below-rows : belowRows op edges ≡ cond (bottomIntegrated edges) (border op) (cond (hasBottom edges) 2 0)

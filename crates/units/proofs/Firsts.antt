@@ -1,4 +1,4 @@
--- The stretches of one class of a mask, as `blocks::class_stretch` finds them. Assumes nothing.
+-- The stretches of one class of a mask, as `blocks::class_stretch` finds them.
 use mathlib.Core.Path.{_≡_, _∙_}
 use mathlib.Core.Bool.{Bool, true, false, not, _||_}
 use mathlib.Core.List.{List}

@@ -1,4 +1,4 @@
--- Of a unit that is not declined all that a row asks for is lent, and what the state keeps is sound. Assumes nothing.
+-- Of a unit that is not declined all that a row asks for is lent, and what the state keeps is sound.
 use mathlib.Core.Path.{_≡_, refl}
 use mathlib.Core.Bool.{Bool, true, false, cond, not, _&&_, _||_}
 use mathlib.Core.List.{List}

@@ -1,4 +1,4 @@
--- Where a padded luma row is taken from: that the padding is not refused, and that the row is the definition's. Assumes nothing.
+-- Where a padded luma row is taken from: that the padding is not refused, and that the row is the definition's.
 use mathlib.Core.Path.{_≡_, refl, sym, _∙_, ap}
 use mathlib.Core.Bool.{Bool, true, false, cond, _&&_}
 use mathlib.Core.List.{List}

@@ -1,4 +1,4 @@
--- What goes with a kind of unit, by its number. Assumes nothing.
+-- What goes with a kind of unit, by its number.
 use mathlib.Core.Path.{_≡_, refl, subst}
 use mathlib.Core.Bool.{true, false}
 use mathlib.Core.List.{List}
@@ -7,7 +7,7 @@ use native.Mathlib.Omega.{arith}
 use lib.IntN.{ℤ}
 use lib.ListN.{length}
 use Rattle.definition.specs.Units.{Operation, luma, user, setSize}
-use Rattle.edges.specs.Operations.{operationOf}
+use Rattle.operations.specs.Operations.{operationOf}
 use Rattle.refusals.specs.Table.{classed, chromatic}
 use Rattle.history.specs.Ring.{slid}
 use Rattle.units.specs.Operations.{numberOf}

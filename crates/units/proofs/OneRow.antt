@@ -1,4 +1,4 @@
--- One row of a unit of any kind: what it is restored from, what is kept for the next one, and the step that it makes. Assumes nothing.
+-- One row of a unit of any kind: what it is restored from, what is kept for the next one, and the step that it makes.
 use mathlib.Core.Path.{_≡_, refl, sym, _∙_, ap, subst}
 use mathlib.Core.Bool.{Bool, true, false, cond}
 use mathlib.Core.List.{List}

@@ -1,4 +1,4 @@
--- Openings: padding looks at the left list and the saved borders alone, and the state before the first row is the definition's. Assumes nothing.
+-- Openings: padding looks at the left list and the saved borders alone, and the state before the first row is the definition's.
 use mathlib.Core.Path.{_≡_, refl, sym, _∙_}
 use mathlib.Core.Bool.{false}
 use mathlib.Core.List.{List, [], _∷_, _++_}
@@ -10,7 +10,7 @@ use Rattle.model.specs.Rows.{padRow, firstRow}
 use Rattle.model.specs.LumaRows.{lumaPadRow}
 use Rattle.model.specs.Opening.{filled, filledRows, openRing, openIndex}
 use Rattle.refusals.specs.declared.Numbers.{Numbers}
-use Rattle.edges.specs.Operations.{operationOf}
+use Rattle.operations.specs.Operations.{operationOf}
 use Rattle.refusals.specs.Given.{givenOf}
 use Rattle.refusals.specs.Table.{chromatic}
 use Rattle.refusals.proofs.Chosen.{unless-chroma}

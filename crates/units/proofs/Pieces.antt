@@ -1,4 +1,4 @@
--- The pieces of rows, counted row by row. Assumes nothing.
+-- The pieces of rows, counted row by row.
 use mathlib.Core.Path.{_≡_, refl, sym, _∙_, ap}
 use mathlib.Core.Bool.{Bool, true, false, cond}
 use mathlib.Core.List.{List}

@@ -1,4 +1,4 @@
--- Rows in their slots: what an opening fills, and the row that is fetched next. Assumes nothing.
+-- Rows in their slots: what an opening fills, and the row that is fetched next.
 use mathlib.Core.Path.{_≡_, refl, sym, _∙_}
 use mathlib.Core.Bool.{Bool, true, false}
 use mathlib.Core.List.{List}

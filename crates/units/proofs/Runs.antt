@@ -1,4 +1,4 @@
--- A row's filter runs: none is refused, so each writes its samples. Assumes nothing.
+-- A row's filter runs: none is refused, so each writes its samples.
 use mathlib.Core.Path.{_≡_, sym, ap, _∙_}
 use mathlib.Core.Bool.{true}
 use mathlib.Core.List.{List}

@@ -1,4 +1,4 @@
--- A run under numbers that are those of the class's set: what it writes. Assumes nothing.
+-- A run under numbers that are those of the class's set: what it writes.
 use mathlib.Core.Path.{_≡_, refl, sym, _∙_, ap}
 use mathlib.Core.List.{List}
 use Prim.Native.Nat.{ℕ, _+_, _*_, _-_, _≤_, _<_}
@@ -12,7 +12,7 @@ use Rattle.definition.specs.Units.{Operation, luma, user, pretrained, chroma}
 use Rattle.filter.specs.Runs.{coefficients}
 use Rattle.laws.proofs.Lists.{tab-cong}
 use Rattle.model.specs.Views.{luma-agree, pretrained-agree, chroma-agree}
-use Rattle.edges.specs.Operations.{operationOf}
+use Rattle.operations.specs.Operations.{operationOf}
 use Rattle.units.specs.Lent.{filtersOf}
 use Rattle.units.specs.Unmasked.{lumaOpen, pretrainedOpen, chromaOpen, openOf, setStart, setFor}
 use Rattle.units.proofs.OfKind.{luma-or-user, at-kind}

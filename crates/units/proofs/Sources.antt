@@ -1,4 +1,4 @@
--- Where a padded row is taken from: that a call of a padding is not refused, and that the row is the definition's. Assumes nothing.
+-- Where a padded row is taken from: that a call of a padding is not refused, and that the row is the definition's.
 use mathlib.Core.Path.{_≡_, refl, sym, _∙_, ap}
 use mathlib.Core.Bool.{Bool, true, false, not, _&&_, _||_}
 use mathlib.Core.List.{List}
@@ -19,7 +19,7 @@ use Rattle.padding.specs.Padded.{backupStatus, lpfStatus, paddedRow}
 use Rattle.model.specs.Rows.{padRow, firstRow}
 use Rattle.model.specs.Fine.{Inside}
 use Rattle.units.specs.Windows.{RowsLie}
-use Rattle.edges.proofs.Borders.{border-high}
+use Rattle.operations.proofs.Borders.{border-high}
 use Rattle.units.proofs.Edges.{above-saved, saved-above}
 
 -- NOT REFUSED

@@ -1,4 +1,4 @@
--- A row written in stretches: what the plane is once the blocks below bx are done, a masked stretch more, a run more. Assumes nothing.
+-- A row written in stretches: what the plane is once the blocks below bx are done, a masked stretch more, a run more.
 use mathlib.Core.Path.{_≡_, refl, sym, _∙_, ap}
 use mathlib.Core.Bool.{true, false, cond}
 use mathlib.Core.List.{List, append-assoc}

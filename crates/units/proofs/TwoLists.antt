@@ -1,4 +1,4 @@
--- Two lists that stand one behind the other: stores in the first, stores in the second, and rows filled behind a front that stays. Assumes nothing.
+-- Two lists that stand one behind the other: stores in the first, stores in the second, and rows filled behind a front that stays.
 use mathlib.Core.Path.{_≡_, refl, sym, _∙_, ap}
 use mathlib.Core.List.{List, [], _∷_, _++_}
 use Prim.Native.Nat.{ℕ, zero, suc, _+_, _*_, _-_, _≤_}

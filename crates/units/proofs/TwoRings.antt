@@ -1,4 +1,4 @@
--- Both rings of a chroma unit in one pair of arrays: what is fetched into each, and the windows moved on. Assumes nothing.
+-- Both rings of a chroma unit in one pair of arrays: what is fetched into each, and the windows moved on.
 use mathlib.Core.Path.{_≡_, refl, sym, _∙_, ap}
 use mathlib.Core.Bool.{Bool, true, false}
 use mathlib.Core.List.{List, [], _∷_, _++_}

@@ -1,4 +1,4 @@
--- DEMAND 3 FOR CHROMA UNITS: two rings side by side, the unit's own rows and the luma rows, which the state holds one behind the other. Assumes nothing.
+-- DEMAND 3 FOR CHROMA UNITS: two rings side by side, the unit's own rows and the luma rows, which the state holds one behind the other.
 use mathlib.Core.Path.{_≡_, refl, sym, _∙_, ap}
 use mathlib.Core.Bool.{cond}
 use mathlib.Core.List.{List, [], _∷_, _++_}

@@ -1,5 +1,5 @@
 -- DEMAND 3 FOR CLASSED UNITS, with user sets and with pretrained ones: a ring of rows beside the classes of the block row in progress, which are worked out at
--- its first row from rows of the plane at the opening, and kept for the others. Assumes nothing.
+-- its first row from rows of the plane at the opening, and kept for the others.
 use mathlib.Core.Path.{_≡_, refl, sym, _∙_, ap, subst}
 use mathlib.Core.Bool.{Bool, true, false, cond, not, _||_}
 use mathlib.Core.List.{List, [], _∷_}

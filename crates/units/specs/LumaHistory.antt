@@ -1,4 +1,4 @@
--- DEMAND 3 FOR LUMA UNITS: what the shared theorem asks of them, and so what holds after any list of advances and overwritings. Assumes nothing.
+-- DEMAND 3 FOR LUMA UNITS: what the shared theorem asks of them, and so what holds after any list of advances and overwritings.
 use mathlib.Core.Path.{_≡_, refl, sym, ap}
 use mathlib.Core.Bool.{cond}
 use mathlib.Core.List.{List, [], _∷_}

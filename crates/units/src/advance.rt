@@ -5,7 +5,7 @@ ghost use lib.IntN.{ℤ};
 ghost use Prim.Native.Nat.{ℕ, _+_, _≤_, _<_};
 ghost use lib.ListN.{length};
 ghost use Rattle.definition.specs.Refusals.{sizesOf};
-ghost use Rattle.edges.specs.Operations.{operationOf};
+ghost use Rattle.operations.specs.Operations.{operationOf};
 ghost use Rattle.refusals.specs.Given.{sizesGiven};
 ghost use Rattle.units.specs.Lent.{filtersOf, unitLent};
 ghost use Rattle.units.specs.Windows.{ring};

@@ -9,7 +9,7 @@ ghost use Rattle.definition.specs.Rows.{tab};
 ghost use Rattle.definition.specs.Refusals.{every};
 ghost use Rattle.definition.specs.ClassIndex.{skipFactor, skipSum, indexOf};
 ghost use Rattle.model.specs.Fine.{Sized};
-ghost use Rattle.edges.specs.Operations.{operationOf};
+ghost use Rattle.operations.specs.Operations.{operationOf};
 ghost use Rattle.refusals.specs.Given.{givenOf};
 ghost use Rattle.model.specs.Rows.{padRow};
 ghost use Rattle.units.specs.Lent.{rowsLent, classLent};

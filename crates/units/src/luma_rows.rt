@@ -14,7 +14,7 @@ ghost use Rattle.units.specs.OneRow.{LumaLie};
 ghost use Rattle.padding.specs.Padded.{source};
 ghost use Rattle.units.specs.LumaFrom.{LumaFits, lumaFrom};
 use crate::rows::first_row;
-use edges::is_set;
+use operations::is_set;
 use refusals::Numbers;
 
 // n columns or rows of chroma as luma's.

@@ -5,7 +5,7 @@ ghost use Prim.Native.Nat.{ℕ, _≤_};
 ghost use lib.IntN.{ℤ};
 ghost use lib.ListN.{length};
 ghost use Rattle.definition.specs.Units.{Lent};
-ghost use Rattle.edges.specs.Operations.{operationOf};
+ghost use Rattle.operations.specs.Operations.{operationOf};
 ghost use Rattle.refusals.specs.Given.{givenOf};
 ghost use Rattle.units.specs.Lent.{unitLent, chromaLent};
 ghost use Rattle.units.specs.Windows.{RowsLie};
@@ -89,7 +89,7 @@ fn first_state<'a>(
     requires { ⌜ (op ≡ 4 → LumaLie (givenOf g) (length (now luma)) (length (now «luma_top»)) (length (now «luma_bottom»))) ⌝ }
     ensures { λ r. ⌜ r ≡ openState (operationOf op) g (chromaLent (now (left .entry)) (now (top .entry)) (now (bottom .entry)) [] (now (luma .entry)) (now («luma_top» .entry)) (now («luma_bottom» .entry)) []) (now (p .entry)) ⌝ }
 {
-    let e = edges::border_of(op);
+    let e = operations::border_of(op);
     let indices = first_indices(op, g);
     let rows = first_rows(op, g, p, left, top, bottom, luma, luma_top, luma_bottom);
     State {

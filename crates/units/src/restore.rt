@@ -6,7 +6,7 @@ ghost use lib.ListN.{length, getD};
 ghost use lib.Seq.{sets};
 ghost use Rattle.definition.specs.Rows.{tab};
 ghost use Rattle.definition.specs.Refusals.{indexLimit};
-ghost use Rattle.edges.specs.Operations.{operationOf};
+ghost use Rattle.operations.specs.Operations.{operationOf};
 ghost use Rattle.units.specs.Lent.{filtersOf};
 ghost use Rattle.units.specs.Cells.{cellOf};
 ghost use Rattle.units.specs.Unmasked.{lumaOpen, pretrainedOpen, chromaOpen, openOf, setStart, setFor, HasSet};

@@ -12,13 +12,13 @@ ghost use Rattle.definition.specs.Rows.{tab};
 ghost use Rattle.history.specs.Ring.{wrap, slid};
 ghost use Rattle.model.specs.Rows.{padRow, firstRow, belowRows, own};
 ghost use Rattle.model.specs.Opening.{filled, openIndex};
-ghost use Rattle.edges.specs.Operations.{operationOf};
+ghost use Rattle.operations.specs.Operations.{operationOf};
 ghost use Rattle.refusals.specs.Given.{givenOf};
 ghost use Rattle.units.specs.Lent.{rowsLent};
 ghost use Rattle.units.specs.Windows.{RowsLie, ring, Fetched};
-use edges::border_of;
-use edges::is_set;
-use edges::top_rows;
+use operations::border_of;
+use operations::is_set;
+use operations::top_rows;
 use refusals::Numbers;
 
 // Rows below the unit that are padded anew: the plane's own, or saved ones.

@@ -1,5 +1,5 @@
 -- What the reference makes of random units, beside what the definition says: every sample of each unit's rectangle.
--- One proof that antt computes. Assumes nothing.
+-- One proof that antt computes.
 use mathlib.Core.Bool.{Bool, true, false, _&&_}
 use mathlib.Core.List.{List, [], _∷_}
 use mathlib.Core.Path.{_≡_, refl}

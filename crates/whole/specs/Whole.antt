@@ -1,4 +1,4 @@
--- What the whole-unit operations promise, and demand 2 from demand 3 at the history of one advance. Assumes nothing.
+-- What the whole-unit operations promise, and demand 2 from demand 3 at the history of one advance.
 use mathlib.Core.Path.{_≡_, refl, sym, _∙_}
 use mathlib.Core.Logic.{_≢_}
 use mathlib.Core.List.{List}

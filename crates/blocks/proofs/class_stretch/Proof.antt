@@ -1,4 +1,4 @@
--- `blocks::class_stretch` meets its contract. Both loops walk: what is still to be found from here on is what was to be found from the start on. Assumes nothing.
+-- `blocks::class_stretch` meets its contract. Both loops walk: what is still to be found from here on is what was to be found from the start on.
 use mathlib.Core.Path.{_≡_, refl, sym, ap, _∙_}
 use Prim.Native.Nat.{ℕ, _+_, _-_, _≤_, _<_}
 use native.Mathlib.Omega.{arith}

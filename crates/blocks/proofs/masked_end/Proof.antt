@@ -1,4 +1,4 @@
--- `blocks::masked_end` meets its contract: the blocks below the trailing zeros are clear, so the first masked one is past them. Assumes nothing.
+-- `blocks::masked_end` meets its contract: the blocks below the trailing zeros are clear, so the first masked one is past them.
 use mathlib.Core.Path.{_≡_, sym, _∙_}
 use Prim.Native.Nat.{_+_, _-_, _/_, _^_}
 use native.Mathlib.Omega.{arith}

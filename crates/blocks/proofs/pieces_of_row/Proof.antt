@@ -1,4 +1,4 @@
--- `blocks::pieces_of_row` meets its contract: of the bw lowest bits those that are not ones are clear. Assumes nothing.
+-- `blocks::pieces_of_row` meets its contract: of the bw lowest bits those that are not ones are clear.
 use mathlib.Core.Path.{_≡_, refl}
 use native.Mathlib.Omega.{arith}
 use lib.Pow.{pow-pos}

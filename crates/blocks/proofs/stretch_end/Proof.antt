@@ -1,4 +1,4 @@
--- `blocks::stretch_end` meets its contract: the tests, then what `masked_end` ensures. Assumes nothing.
+-- `blocks::stretch_end` meets its contract: the tests, then what `masked_end` ensures.
 use mathlib.Core.Path.{_≡_, refl}
 use Rattle.blocks.specs.Answers.{blockStatus}
 use Rattle.blocks.proofs.Told.{block-in, block-wide, block-past}

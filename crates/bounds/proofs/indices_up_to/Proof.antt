@@ -1,4 +1,4 @@
--- `bounds::indices_up_to` meets its contract: the indices before k passed. Assumes nothing.
+-- `bounds::indices_up_to` meets its contract: the indices before k passed.
 use mathlib.Core.Path.{_≡_, sym}
 use mathlib.Core.Bool.{true}
 use Prim.Native.Nat.{_-_, _≤_}

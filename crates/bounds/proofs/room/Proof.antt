@@ -1,4 +1,4 @@
--- `bounds::room` meets its contract: each test is one of natural numbers. Assumes nothing.
+-- `bounds::room` meets its contract: each test is one of natural numbers.
 use mathlib.Core.Path.{sym}
 use Prim.Native.Nat.{_+_, _-_}
 use native.Mathlib.Omega.{arith}

@@ -1,4 +1,4 @@
--- `class_index::class_of_features` meets its contract: a refused call answers 0. Assumes nothing.
+-- `class_index::class_of_features` meets its contract: a refused call answers 0.
 use mathlib.Core.Path.{_≡_, sym, ap, _∙_}
 use Prim.Native.Nat.{_*_}
 use lib.IntN.{ℤ}

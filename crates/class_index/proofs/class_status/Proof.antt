@@ -1,4 +1,4 @@
--- `class_index::class_status` meets its contract: the tests are those of `classStatus`, in its order. Assumes nothing.
+-- `class_index::class_status` meets its contract: the tests are those of `classStatus`, in its order.
 use mathlib.Core.Path.{_≡_, sym, _∙_}
 use mathlib.Core.Bool.{true, false}
 use native.Mathlib.Omega.{arith}

@@ -1,4 +1,4 @@
--- `class_index::feature_bin` meets its contract: the term, the saturating sum and the bin, each passed on through its bits. Assumes nothing.
+-- `class_index::feature_bin` meets its contract: the term, the saturating sum and the bin, each passed on through its bits.
 use mathlib.Core.Path.{_≡_, ap, _∙_}
 use lib.IntN.{_+ℤ_}
 use mir.Syntax.{w32}

@@ -1,4 +1,4 @@
--- `class_index::get_class_lut_idx_8bpc` meets its contract: a refused call answers 0, and else the index is taken from the features. Assumes nothing.
+-- `class_index::get_class_lut_idx_8bpc` meets its contract: a refused call answers 0, and else the index is taken from the features.
 use mathlib.Core.Path.{_≡_, sym, ap, _∙_}
 use Prim.Native.Nat.{ℕ, _*_}
 use lib.ListN.{length, getD}

@@ -1,4 +1,4 @@
--- `class_index::index_of` meets its contract: each part is the definition's. Assumes nothing.
+-- `class_index::index_of` meets its contract: each part is the definition's.
 use mathlib.Core.Path.{_≡_, _∙_}
 use Prim.Native.Nat.{_+_, _*_}
 use lib.IntN.{_+ℤ_}

@@ -1,4 +1,4 @@
--- `class_index::lut_index` meets its contract: four bins, each at most 7, with their places. Assumes nothing.
+-- `class_index::lut_index` meets its contract: four bins, each at most 7, with their places.
 use mathlib.Core.Path.{_≡_, _∙_}
 use Prim.Native.Nat.{_+_, _*_}
 use lib.IntN.{pos, _+ℤ_}

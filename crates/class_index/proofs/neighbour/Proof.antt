@@ -1,4 +1,4 @@
--- `class_index::neighbour` meets its contract: the clip from 0 is the smaller of two numbers. Assumes nothing.
+-- `class_index::neighbour` meets its contract: the clip from 0 is the smaller of two numbers.
 use mathlib.Core.Path.{_≡_, ap, _∙_}
 use Prim.Native.Nat.{ℕ, _+_, _-_, _^_, _<_, _≤_, min}
 use native.Mathlib.Omega.{arith}

@@ -1,4 +1,4 @@
--- `class_index::place_status` meets its contract: the tests are those of `placeStatus`, in its order. Assumes nothing.
+-- `class_index::place_status` meets its contract: the tests are those of `placeStatus`, in its order.
 use native.Mathlib.Omega.{arith}
 use borrow.Author.Tests.{lt-ltb, le-ltb, le-leb, lt-leb}
 use Rattle.class_index.specs.Answers.{placeStatus}

@@ -1,4 +1,4 @@
--- `class_index::skip_row` meets its contract: three neighbours, each with its share. Assumes nothing.
+-- `class_index::skip_row` meets its contract: three neighbours, each with its share.
 use mathlib.Core.Path.{ap, _∙_}
 use mathlib.Core.Bool.{cond}
 use Prim.Native.Nat.{ℕ, _+_}

@@ -1,4 +1,4 @@
--- `class_index::skip_share` meets its contract: the test is that of `bitSet`. Assumes nothing.
+-- `class_index::skip_share` meets its contract: the test is that of `bitSet`.
 use Prim.Native.Nat.{_/_, _%_, _^_}
 use native.Mathlib.Omega.{arith}
 use borrow.Author.Needs.{needs}

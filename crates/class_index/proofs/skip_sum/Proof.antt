@@ -1,4 +1,4 @@
--- `class_index::skip_sum` meets its contract: three rows of three neighbours. Assumes nothing.
+-- `class_index::skip_sum` meets its contract: three rows of three neighbours.
 use mathlib.Core.Path.{sym, ap, _∙_}
 use mathlib.Core.Bool.{cond}
 use Prim.Native.Nat.{ℕ, _+_, _-_, min}

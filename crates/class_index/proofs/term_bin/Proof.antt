@@ -1,4 +1,4 @@
--- `class_index::term_bin` meets its contract: the term and its bin, passed on through its bits. Assumes nothing.
+-- `class_index::term_bin` meets its contract: the term and its bin, passed on through its bits.
 use mathlib.Core.Path.{_≡_, ap, _∙_}
 use lib.Dec.{lit<}
 use mir.Syntax.{w32}

@@ -1,4 +1,4 @@
--- `class_index::times` meets its contract: the product is far below 2 ^ 31. Assumes nothing.
+-- `class_index::times` meets its contract: the product is far below 2 ^ 31.
 use Prim.Native.Nat.{_*_, _≤_, _<_, _^_}
 use native.Mathlib.Nat.{mul-le-mul}
 use native.Mathlib.Omega.{arith}

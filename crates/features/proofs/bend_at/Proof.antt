@@ -1,4 +1,4 @@
--- `features::bend_at` meets its contract: each sample is at the place that was worked out. Assumes nothing.
+-- `features::bend_at` meets its contract: each sample is at the place that was worked out.
 use mathlib.Core.Path.{_∙_}
 use Prim.Native.Nat.{_*_}
 use lib.IntN.{pos, natAbs, _+ℤ_, _-ℤ_}

@@ -1,4 +1,4 @@
--- `features::bend_of` meets its contract: the larger less the smaller is the distance. Assumes nothing.
+-- `features::bend_of` meets its contract: the larger less the smaller is the distance.
 use Prim.Native.Nat.{_*_}
 use native.Mathlib.Omega.{arith}
 use borrow.Author.Needs.{needs}

@@ -1,4 +1,4 @@
--- `features::column_sum` meets its contract: six bends are added up. Assumes nothing.
+-- `features::column_sum` meets its contract: six bends are added up.
 use native.Mathlib.Omega.{arith}
 use borrow.Author.Needs.{needs}
 use Rattle.features.specs.Features.{columnBend}

@@ -1,4 +1,4 @@
--- `features::column_sums` meets its contract: before turn k the columns from m to k - 1 are summed. Assumes nothing.
+-- `features::column_sums` meets its contract: before turn k the columns from m to k - 1 are summed.
 use mathlib.Core.Path.{_≡_, refl}
 use Prim.Native.Nat.{ℕ, _+_, _-_, _≤_, _<_}
 use native.Mathlib.Decide.{ℕ-discrete}

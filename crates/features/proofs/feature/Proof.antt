@@ -1,4 +1,4 @@
--- `features::feature` meets its contract: the block's six columns are summed, and their sum is the feature. Assumes nothing.
+-- `features::feature` meets its contract: the block's six columns are summed, and their sum is the feature.
 use mathlib.Core.Path.{_∙_}
 use native.Mathlib.Omega.{arith}
 use Prim.Native.Nat.{_+_, _*_}

@@ -1,4 +1,4 @@
--- `features::feature_row` meets its contract: after bx turns the features of the first bx blocks are stored. Assumes nothing.
+-- `features::feature_row` meets its contract: after bx turns the features of the first bx blocks are stored.
 use mathlib.Core.Path.{_≡_, refl, _∙_}
 use Prim.Native.Nat.{ℕ, _+_, _-_, _*_, _≤_, _<_}
 use native.Mathlib.Nat.{zero-add}

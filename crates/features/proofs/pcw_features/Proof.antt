@@ -1,4 +1,4 @@
--- `features::pcw_features` meets its contract: a refused call answers zeros, and else the rows lie inside. Assumes nothing.
+-- `features::pcw_features` meets its contract: a refused call answers zeros, and else the rows lie inside.
 use mathlib.Core.Path.{sym, _∙_}
 use mathlib.Core.List.{[], _∷_}
 use Prim.Native.Nat.{_≤_}

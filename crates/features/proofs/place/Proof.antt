@@ -1,4 +1,4 @@
--- `features::place` meets its contract: the row index is at most 9. Assumes nothing.
+-- `features::place` meets its contract: the row index is at most 9.
 use mathlib.Core.Path.{refl}
 use Prim.Native.Nat.{_≤_}
 use native.Mathlib.Omega.{arith}

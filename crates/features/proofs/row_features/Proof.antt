@@ -1,4 +1,4 @@
--- `features::row_features` meets its contract: a refused call answers zeros, and else the rows lie inside. Assumes nothing.
+-- `features::row_features` meets its contract: a refused call answers zeros, and else the rows lie inside.
 use mathlib.Core.Path.{sym, _∙_}
 use Prim.Native.Nat.{_≤_}
 use native.Mathlib.Omega.{arith}

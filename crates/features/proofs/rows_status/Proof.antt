@@ -1,4 +1,4 @@
--- `features::rows_status` meets its contract: the tests are those of `rowsStatus`. Assumes nothing.
+-- `features::rows_status` meets its contract: the tests are those of `rowsStatus`.
 use mathlib.Core.Path.{_≡_, sym, _∙_}
 use mathlib.Core.Bool.{true, false}
 use native.Mathlib.Omega.{arith}

@@ -1,4 +1,4 @@
--- `features::six` meets its contract: after j turns the first j of the six columns are added up. Assumes nothing.
+-- `features::six` meets its contract: after j turns the first j of the six columns are added up.
 use mathlib.Core.Path.{_≡_, _∙_}
 use Prim.Native.Nat.{_+_, _-_, _*_, _≤_}
 use native.Mathlib.Omega.{arith}

@@ -1,4 +1,4 @@
--- `filter::ns_wiener_fir_run` meets its contract: after each turn the first x samples are written. Assumes nothing.
+-- `filter::ns_wiener_fir_run` meets its contract: after each turn the first x samples are written.
 use native.Mathlib.Omega.{arith}
 use mathlib.Core.Path.{_≡_, refl, sym, ap, _∙_}
 use Prim.Native.Nat.{ℕ, _+_, _-_}

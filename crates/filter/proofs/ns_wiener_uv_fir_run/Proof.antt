@@ -1,4 +1,4 @@
--- `filter::ns_wiener_uv_fir_run` meets its contract: the gathered luma gives the sums of luma itself, in both ways. Assumes nothing.
+-- `filter::ns_wiener_uv_fir_run` meets its contract: the gathered luma gives the sums of luma itself, in both ways.
 use borrow.Author.Needs.{needs}
 use native.Mathlib.Omega.{arith}
 use mathlib.Core.Path.{_≡_, sym, _∙_}

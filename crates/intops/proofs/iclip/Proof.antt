@@ -1,4 +1,4 @@
--- `intops::iclip` meets its contract: the tests are those of `clipZ`, on numbers read back from their bits. Assumes nothing.
+-- `intops::iclip` meets its contract: the tests are those of `clipZ`, on numbers read back from their bits.
 use mir.Facts.{toZ-ofZ}
 use Rattle.intops.proofs.iclip.Statement.{statement}
 use Rattle.intops.proofs.iclip.Tie as tie

@@ -1,4 +1,4 @@
--- `intops::iclip64to32` meets its contract: the tests are those of `clipZ`, with both ends widened, and a number that passes both fits. Assumes nothing.
+-- `intops::iclip64to32` meets its contract: the tests are those of `clipZ`, with both ends widened, and a number that passes both fits.
 use lib.Dec.{lit<}
 use mir.Syntax.{w64}
 use mir.Facts.{toZ-ofZ}

@@ -1,4 +1,4 @@
--- `intops::imax` meets its contract: the test is that of `maxZ`, on numbers read back from their bits. Assumes nothing.
+-- `intops::imax` meets its contract: the test is that of `maxZ`, on numbers read back from their bits.
 use mir.Facts.{toZ-ofZ}
 use Rattle.intops.proofs.imax.Statement.{statement}
 use Rattle.intops.proofs.imax.Tie as tie

@@ -1,4 +1,4 @@
--- `intops::imin` meets its contract: the test is that of `minZ`, on numbers read back from their bits. Assumes nothing.
+-- `intops::imin` meets its contract: the test is that of `minZ`, on numbers read back from their bits.
 use mir.Facts.{toZ-ofZ}
 use Rattle.intops.proofs.imin.Statement.{statement}
 use Rattle.intops.proofs.imin.Tie as tie

@@ -1,4 +1,4 @@
--- `intops::saturating_add` meets its contract: the widened sum is exact, and the call clips it. Assumes nothing.
+-- `intops::saturating_add` meets its contract: the widened sum is exact, and the call clips it.
 use mathlib.Core.Path.{ap, _∙_}
 use lib.Dec.{lit<}
 use mir.Syntax.{w64}

@@ -1,4 +1,4 @@
--- `padding::backup_into` meets its contract: three stretches, one behind the other, are one padded row (`row-written`). Assumes nothing.
+-- `padding::backup_into` meets its contract: three stretches, one behind the other, are one padded row (`row-written`).
 use mathlib.Core.Path.{sym, _∙_}
 use native.Mathlib.Omega.{arith}
 use Rattle.definition.specs.Padding.{hasLeft, hasRight}

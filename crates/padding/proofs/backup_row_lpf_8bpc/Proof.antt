@@ -1,4 +1,4 @@
--- `padding::backup_row_lpf_8bpc` meets its contract: the list of left samples is the row's own, and its status is the same. Assumes nothing.
+-- `padding::backup_row_lpf_8bpc` meets its contract: the list of left samples is the row's own, and its status is the same.
 use mathlib.Core.Path.{_∙_}
 use lib.ListN.{length}
 use borrow.Author.Needs.{needs}

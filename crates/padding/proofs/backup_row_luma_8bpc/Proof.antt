@@ -1,4 +1,4 @@
--- `padding::backup_row_luma_8bpc` meets its contract: a status of 0 says that all lies inside (`given-inside-luma`). Assumes nothing.
+-- `padding::backup_row_luma_8bpc` meets its contract: a status of 0 says that all lies inside (`given-inside-luma`).
 use mathlib.Core.Path.{_≡_, sym, _∙_}
 use lib.ListN.{length}
 use borrow.Author.Needs.{needs}

@@ -1,4 +1,4 @@
--- `padding::backup_status` meets its contract: each test is one of the conjunction, in its order, and one that passes leaves those behind it. Assumes nothing.
+-- `padding::backup_status` meets its contract: each test is one of the conjunction, in its order, and one that passes leaves those behind it.
 use mathlib.Core.Path.{_≡_, sym, _∙_}
 use mathlib.Core.Bool.{Bool, true, false, not, _&&_, _||_}
 use Prim.Native.Nat.{ℕ, _+_}

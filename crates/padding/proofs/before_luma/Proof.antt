@@ -1,4 +1,4 @@
--- `padding::before_luma` meets its contract, by whether columns are lent. Assumes nothing.
+-- `padding::before_luma` meets its contract, by whether columns are lent.
 use borrow.Author.Tests.{eq-eqb, ne-eqb}
 use borrow.Author.Needs.{needs}
 use Rattle.padding.proofs.before_luma.Statement.{statement}

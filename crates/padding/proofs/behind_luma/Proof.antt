@@ -1,4 +1,4 @@
--- `padding::behind_luma` meets its contract, by whether columns are lent. Assumes nothing.
+-- `padding::behind_luma` meets its contract, by whether columns are lent.
 use borrow.Author.Tests.{eq-eqb, ne-eqb}
 use borrow.Author.Needs.{needs}
 use Rattle.padding.proofs.behind_luma.Statement.{statement}

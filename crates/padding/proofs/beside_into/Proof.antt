@@ -1,4 +1,4 @@
--- `padding::beside_into` meets its contract: each branch is one of the two writes. Assumes nothing.
+-- `padding::beside_into` meets its contract: each branch is one of the two writes.
 use native.Mathlib.Omega.{arith}
 use borrow.Author.Needs.{needs}
 use Rattle.padding.proofs.beside_into.Statement.{statement}

@@ -1,4 +1,4 @@
--- `padding::fill_into` meets its contract: each turn stores one byte more (`sets-more`). Assumes nothing.
+-- `padding::fill_into` meets its contract: each turn stores one byte more (`sets-more`).
 use Prim.Native.Nat.{_-_, _≤_}
 use mathlib.Core.Path.{_≡_, refl}
 use native.Mathlib.Omega.{arith}

@@ -1,4 +1,4 @@
--- `padding::has_left` meets its contract: bit 0 of a number is its remainder by 2. Assumes nothing.
+-- `padding::has_left` meets its contract: bit 0 of a number is its remainder by 2.
 use native.Mathlib.Nat.{div-one}
 use Rattle.padding.proofs.has_left.Statement.{statement}
 use Rattle.padding.proofs.has_left.Tie as tie

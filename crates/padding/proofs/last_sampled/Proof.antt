@@ -1,4 +1,4 @@
--- `padding::last_sampled` meets its contract, by whether it is subsampled horizontally. Assumes nothing.
+-- `padding::last_sampled` meets its contract, by whether it is subsampled horizontally.
 use borrow.Author.Needs.{needs}
 use Rattle.padding.proofs.Columns.{last-first, last-second}
 use Rattle.padding.proofs.last_sampled.Statement.{statement}

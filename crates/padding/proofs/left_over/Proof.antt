@@ -1,4 +1,4 @@
--- `padding::left_over` meets its contract: what is divided by is 1 or 2. Assumes nothing.
+-- `padding::left_over` meets its contract: what is divided by is 1 or 2.
 use mathlib.Core.Path.{_≡_}
 use Prim.Native.Nat.{_%_}
 use native.Mathlib.Omega.{arith}

@@ -1,4 +1,4 @@
--- `padding::lower_at` meets its contract, by vertical subsampling and kind. Assumes nothing.
+-- `padding::lower_at` meets its contract, by vertical subsampling and kind.
 use borrow.Author.Needs.{needs}
 use Rattle.padding.proofs.Columns.{lower-none, lower-some}
 use Rattle.padding.proofs.lower_at.Statement.{statement}

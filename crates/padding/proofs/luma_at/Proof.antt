@@ -1,4 +1,4 @@
--- `padding::luma_at` meets its contract: each return is one clause of `mixed`, and bytes are below 256. Assumes nothing.
+-- `padding::luma_at` meets its contract: each return is one clause of `mixed`, and bytes are below 256.
 use Prim.Native.Nat.{_+_, _<_}
 use native.Mathlib.Omega.{arith}
 use lib.ListN.{length}

@@ -1,4 +1,4 @@
--- `padding::luma_into` meets its contract: where no lower row is read, the upper one is copied (`copied`). Assumes nothing.
+-- `padding::luma_into` meets its contract: where no lower row is read, the upper one is copied (`copied`).
 use mathlib.Core.Path.{sym, _∙_}
 use borrow.Author.Needs.{needs}
 use Rattle.padding.proofs.Columns.{copied}

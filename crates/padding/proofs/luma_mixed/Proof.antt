@@ -1,4 +1,4 @@
--- `padding::luma_mixed` meets its contract: whole steps are filled, and a column that is stepped over keeps its byte (`columns-more`). Assumes nothing.
+-- `padding::luma_mixed` meets its contract: whole steps are filled, and a column that is stepped over keeps its byte (`columns-more`).
 use Prim.Native.Nat.{_-_}
 use mathlib.Core.Path.{_≡_, refl}
 use native.Mathlib.Omega.{arith}

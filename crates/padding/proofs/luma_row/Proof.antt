@@ -1,4 +1,4 @@
--- `padding::luma_row` meets its contract: each branch is a part of one of the two slices. Assumes nothing.
+-- `padding::luma_row` meets its contract: each branch is a part of one of the two slices.
 use native.Mathlib.Omega.{arith}
 use Prim.Native.Nat.{_+_, _-_}
 use mathlib.Core.Path.{_≡_}

@@ -1,4 +1,4 @@
--- `padding::luma_row_into` meets its contract: the lent columns and the borders that repeat are one padded row (`luma-done`). Assumes nothing.
+-- `padding::luma_row_into` meets its contract: the lent columns and the borders that repeat are one padded row (`luma-done`).
 use Prim.Native.Nat.{ℕ, _+_, _-_, _^_, _<_}
 use mathlib.Core.Path.{ap, _∙_}
 use native.Mathlib.Omega.{arith}

@@ -1,4 +1,4 @@
--- `padding::luma_status` meets its contract: each test is one of the conditions, in their order, and one that passes leaves those behind it. Assumes nothing.
+-- `padding::luma_status` meets its contract: each test is one of the conditions, in their order, and one that passes leaves those behind it.
 use mathlib.Core.Path.{_≡_, sym, _∙_}
 use mathlib.Core.Bool.{Bool, true, false, _&&_}
 use Prim.Native.Nat.{ℕ, _+_, _%_}

@@ -1,4 +1,4 @@
--- `padding::row_into` meets its contract, by whether bytes are lent behind the row. Assumes nothing.
+-- `padding::row_into` meets its contract, by whether bytes are lent behind the row.
 use mathlib.Core.Path.{_∙_}
 use native.Mathlib.Omega.{arith}
 use Rattle.padding.proofs.Around.{beside-set, row-on}

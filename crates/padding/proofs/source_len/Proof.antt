@@ -1,4 +1,4 @@
--- `padding::source_len` meets its contract, by which slice is meant. Assumes nothing.
+-- `padding::source_len` meets its contract, by which slice is meant.
 use Rattle.padding.proofs.source_len.Statement.{statement}
 use Rattle.padding.proofs.source_len.Tie as tie
 

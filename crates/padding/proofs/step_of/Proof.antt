@@ -1,4 +1,4 @@
--- `padding::step_of` meets its contract, by vertical subsampling and kind. Assumes nothing.
+-- `padding::step_of` meets its contract, by vertical subsampling and kind.
 use borrow.Author.Needs.{needs}
 use Rattle.padding.proofs.Columns.{step-two, step-one}
 use Rattle.padding.proofs.step_of.Statement.{statement}

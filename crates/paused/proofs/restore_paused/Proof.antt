@@ -1,4 +1,4 @@
--- `paused::restore_paused` meets its contract: demand 3 at the history of its calls (Histories). Assumes nothing.
+-- `paused::restore_paused` meets its contract: demand 3 at the history of its calls (Histories).
 use mathlib.Core.Path.{refl, sym, _∙_}
 use Rattle.units.specs.Openings.{numbersY}
 use Rattle.units.specs.Lent.{lumaLent}

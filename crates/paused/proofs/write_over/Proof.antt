@@ -1,4 +1,4 @@
--- `paused::write_over` meets its contract. Assumes nothing.
+-- `paused::write_over` meets its contract.
 use borrow.Author.Tests.{eq-eqb, ne-eqb}
 use borrow.Author.Needs.{needs}
 use Rattle.paused.proofs.write_over.Statement.{statement}

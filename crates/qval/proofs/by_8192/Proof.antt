@@ -1,4 +1,4 @@
--- `qval::by_8192` meets its contract: both arms are exact, and by the sign they are what `by8192` says. Assumes nothing.
+-- `qval::by_8192` meets its contract: both arms are exact, and by the sign they are what `by8192` says.
 use mathlib.Core.Path.{_∙_}
 use lib.Dec.{lit<, lit≤}
 use lib.IntN.{pos}

@@ -1,4 +1,4 @@
--- `qval::get_qval_given_tskip` meets its contract: each step is exact, and the last clips. Assumes nothing.
+-- `qval::get_qval_given_tskip` meets its contract: each step is exact, and the last clips.
 use mathlib.Core.Path.{_≡_, refl, ap, _∙_}
 use Prim.Native.Nat.{ℕ, _+_, _*_, _^_, _<_, _≤_}
 use native.Mathlib.Omega.{arith}

@@ -1,4 +1,4 @@
--- `qval::get_qval_lut_bin` meets its contract: its steps are those of `bin`, each read back from its bits. Assumes nothing.
+-- `qval::get_qval_lut_bin` meets its contract: its steps are those of `bin`, each read back from its bits.
 use mathlib.Core.Path.{ap}
 use native.Mathlib.Omega.{arith}
 use lib.IntN.{natAbs}

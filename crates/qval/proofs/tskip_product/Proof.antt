@@ -1,4 +1,4 @@
--- `qval::tskip_product` meets its contract: each step is exact in 64 bits. Assumes nothing.
+-- `qval::tskip_product` meets its contract: each step is exact in 64 bits.
 use native.Mathlib.Omega.{arith}
 use Prim.Native.Nat.{_≤_}
 use lib.Dec.{lit<, lit≤}

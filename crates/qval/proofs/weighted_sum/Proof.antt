@@ -1,4 +1,4 @@
--- `qval::weighted_sum` meets its contract: three products and two sums, each exact in 64 bits. Assumes nothing.
+-- `qval::weighted_sum` meets its contract: three products and two sums, each exact in 64 bits.
 use Prim.Native.Nat.{ℕ, _*_, _≤_}
 use native.Mathlib.Omega.{arith}
 use lib.Dec.{lit<, lit≤}

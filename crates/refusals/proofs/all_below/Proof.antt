@@ -1,4 +1,4 @@
--- `refusals::all_below` meets its contract: all are below n where the largest is. Assumes nothing.
+-- `refusals::all_below` meets its contract: all are below n where the largest is.
 use mathlib.Core.Path.{_≡_, _∙_, ap}
 use Prim.Native.Nat.{ℕ}
 use native.Mathlib.Omega.{arith}

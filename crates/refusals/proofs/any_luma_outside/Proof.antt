@@ -1,9 +1,9 @@
--- `refusals::any_luma_outside` meets its contract: call by call. Assumes nothing.
+-- `refusals::any_luma_outside` meets its contract: call by call.
 use mathlib.Core.Path.{_∙_}
 use mathlib.Core.Bool.{_||_}
 use borrow.Author.Needs.{needs}
 use Rattle.definition.specs.Refusals.{lumaOutside}
-use Rattle.edges.specs.Operations.{operationOf}
+use Rattle.operations.specs.Operations.{operationOf}
 use Rattle.refusals.specs.Given.{givenOf, sizesGiven}
 use Rattle.refusals.proofs.any_luma_outside.Statement.{statement}
 use Rattle.refusals.proofs.any_luma_outside.Tie as tie

@@ -1,10 +1,10 @@
--- `refusals::bad_filters` meets its contract: by whether the operation has classes. Assumes nothing.
+-- `refusals::bad_filters` meets its contract: by whether the operation has classes.
 use mathlib.Core.Path.{sym, _∙_}
 use mathlib.Core.Bool.{not, _||_}
 use Prim.Native.Nat.{_%_}
 use lib.Dec.{eqb}
 use borrow.Author.Needs.{needs}
-use Rattle.edges.specs.Operations.{operationOf}
+use Rattle.operations.specs.Operations.{operationOf}
 use Rattle.refusals.specs.Given.{givenOf, sizesGiven}
 use Rattle.refusals.proofs.Refused.{filters-classed, filters-other}
 use Rattle.refusals.proofs.bad_filters.Statement.{statement}

@@ -1,11 +1,11 @@
--- `refusals::bad_kept` meets its contract: by whether the operation has classes. Assumes nothing.
+-- `refusals::bad_kept` meets its contract: by whether the operation has classes.
 use mathlib.Core.Path.{_≡_, refl, sym, _∙_}
 use mathlib.Core.Bool.{false, not}
 use Prim.Native.Nat.{_/_}
 use lib.Dec.{ltb}
 use Rattle.definition.specs.Units.{setSize}
 use Rattle.definition.specs.Refusals.{firstPass, badKept}
-use Rattle.edges.specs.Operations.{operationOf}
+use Rattle.operations.specs.Operations.{operationOf}
 use Rattle.refusals.proofs.Chosen.{when-classed, unless-classed}
 use borrow.Author.Needs.{needs}
 use Rattle.refusals.proofs.bad_kept.Statement.{statement}

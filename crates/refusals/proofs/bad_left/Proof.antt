@@ -1,4 +1,4 @@
--- `refusals::bad_left` meets its contract: call by call. Assumes nothing.
+-- `refusals::bad_left` meets its contract: call by call.
 use mathlib.Core.Path.{_∙_}
 use mathlib.Core.Bool.{_&&_}
 use Prim.Native.Nat.{_*_}

@@ -1,4 +1,4 @@
--- `refusals::bad_map` meets its contract: by its length, then call by call. Assumes nothing.
+-- `refusals::bad_map` meets its contract: by its length, then call by call.
 use mathlib.Core.Path.{_∙_, ap}
 use mathlib.Core.Bool.{not, _||_}
 use Prim.Native.Nat.{_/_}

@@ -1,10 +1,10 @@
--- `refusals::bad_masks` meets its contract: call by call. Assumes nothing.
+-- `refusals::bad_masks` meets its contract: call by call.
 use mathlib.Core.Path.{_∙_}
 use mathlib.Core.Bool.{_&&_, _||_}
 use Prim.Native.Nat.{_/_}
 use lib.Dec.{ltb}
 use borrow.Author.Needs.{needs}
-use Rattle.edges.specs.Operations.{operationOf}
+use Rattle.operations.specs.Operations.{operationOf}
 use Rattle.refusals.specs.Given.{givenOf, sizesGiven}
 use Rattle.refusals.proofs.Refused.{noskip}
 use Rattle.refusals.proofs.bad_masks.Statement.{statement}

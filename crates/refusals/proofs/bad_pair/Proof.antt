@@ -1,9 +1,9 @@
--- `refusals::bad_pair` meets its contract: call by call. Assumes nothing.
+-- `refusals::bad_pair` meets its contract: call by call.
 use mathlib.Core.Path.{_∙_}
 use mathlib.Core.Bool.{_&&_, _||_}
 use lib.Dec.{ltb}
 use borrow.Author.Needs.{needs}
-use Rattle.edges.specs.Operations.{operationOf}
+use Rattle.operations.specs.Operations.{operationOf}
 use Rattle.refusals.specs.Given.{givenOf, sizesGiven}
 use Rattle.refusals.proofs.Refused.{pair}
 use Rattle.refusals.proofs.bad_pair.Statement.{statement}

@@ -1,4 +1,4 @@
--- `refusals::bad_shape` meets its contract: the four tests in turn. Assumes nothing.
+-- `refusals::bad_shape` meets its contract: the four tests in turn.
 use mathlib.Core.Path.{sym, _∙_}
 use borrow.Author.Tests.{not-true, not-false, lt-ltb, le-ltb}
 use borrow.Author.Needs.{needs}

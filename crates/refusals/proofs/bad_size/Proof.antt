@@ -1,4 +1,4 @@
--- `refusals::bad_size` meets its contract: call by call. Assumes nothing.
+-- `refusals::bad_size` meets its contract: call by call.
 use mathlib.Core.Path.{_∙_}
 use mathlib.Core.Bool.{not, _&&_}
 use lib.Dec.{leb}

@@ -1,4 +1,4 @@
--- `refusals::bad_stride` meets its contract: call by call. Assumes nothing.
+-- `refusals::bad_stride` meets its contract: call by call.
 use mathlib.Core.Path.{_≡_, ap, _∙_}
 use mathlib.Core.Bool.{cond, not, _&&_, _||_}
 use Prim.Native.Nat.{_+_}
@@ -6,7 +6,7 @@ use lib.Dec.{ltb}
 use borrow.Author.Needs.{needs}
 use Rattle.definition.specs.Padding.{hasRight}
 use Rattle.definition.specs.Units.{border}
-use Rattle.edges.specs.Operations.{operationOf}
+use Rattle.operations.specs.Operations.{operationOf}
 use Rattle.refusals.specs.Given.{givenOf, sizesGiven}
 use Rattle.refusals.proofs.Refused.{narrow, luma-stride}
 use Rattle.refusals.proofs.bad_stride.Statement.{statement}

@@ -1,4 +1,4 @@
--- `refusals::beside` meets its contract: by the test. Assumes nothing.
+-- `refusals::beside` meets its contract: by the test.
 use mathlib.Core.Path.{sym, _∙_}
 use native.Mathlib.Omega.{arith}
 use borrow.Author.Needs.{needs}

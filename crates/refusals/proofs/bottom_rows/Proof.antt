@@ -1,4 +1,4 @@
--- `refusals::bottom_rows` meets its contract: call by call. Assumes nothing.
+-- `refusals::bottom_rows` meets its contract: call by call.
 use mathlib.Core.Path.{_∙_}
 use mathlib.Core.Bool.{cond}
 use native.Mathlib.Omega.{arith}

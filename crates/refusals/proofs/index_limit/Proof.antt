@@ -1,8 +1,8 @@
--- `refusals::index_limit` meets its contract: by whether the operation is chroma. Assumes nothing.
+-- `refusals::index_limit` meets its contract: by whether the operation is chroma.
 use mathlib.Core.Path.{_≡_, refl, sym, _∙_}
 use borrow.Author.Needs.{needs}
 use Rattle.definition.specs.Refusals.{indexLimit}
-use Rattle.edges.specs.Operations.{operationOf}
+use Rattle.operations.specs.Operations.{operationOf}
 use Rattle.refusals.proofs.Chosen.{when-chroma, unless-chroma}
 use Rattle.refusals.proofs.index_limit.Statement.{statement}
 use Rattle.refusals.proofs.index_limit.Tie as tie

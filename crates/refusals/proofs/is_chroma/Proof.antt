@@ -1,4 +1,4 @@
--- `refusals::is_chroma` meets its contract: by the number. Assumes nothing.
+-- `refusals::is_chroma` meets its contract: by the number.
 use borrow.Author.Needs.{needs}
 use Rattle.refusals.proofs.Refused.{chroma-above}
 use Rattle.refusals.proofs.is_chroma.Statement.{statement}

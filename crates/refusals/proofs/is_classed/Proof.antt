@@ -1,4 +1,4 @@
--- `refusals::is_classed` meets its contract: by the number. Assumes nothing.
+-- `refusals::is_classed` meets its contract: by the number.
 use borrow.Author.Needs.{needs}
 use Rattle.refusals.proofs.Refused.{classed-third}
 use Rattle.refusals.proofs.is_classed.Statement.{statement}

@@ -1,4 +1,4 @@
--- `refusals::is_outside` meets its contract: the rows before the last are at most 135 strides of 65,536. Assumes nothing.
+-- `refusals::is_outside` meets its contract: the rows before the last are at most 135 strides of 65,536.
 use mathlib.Core.Path.{ap, _∙_}
 use mathlib.Core.Bool.{not}
 use Prim.Native.Nat.{_-_, _≤_}

@@ -1,4 +1,4 @@
--- `refusals::later` meets its contract: call by call. Assumes nothing.
+-- `refusals::later` meets its contract: call by call.
 use mathlib.Core.Path.{_∙_}
 use mathlib.Core.Bool.{cond}
 use borrow.Author.Needs.{needs}

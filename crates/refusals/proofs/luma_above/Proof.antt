@@ -1,4 +1,4 @@
--- `refusals::luma_above` meets its contract: call by call. Assumes nothing.
+-- `refusals::luma_above` meets its contract: call by call.
 use mathlib.Core.Path.{_∙_}
 use mathlib.Core.Bool.{cond}
 use Prim.Native.Nat.{_*_}

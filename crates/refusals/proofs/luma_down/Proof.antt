@@ -1,4 +1,4 @@
--- `refusals::luma_down` meets its contract: call by call, and at most twice 66 rows. Assumes nothing.
+-- `refusals::luma_down` meets its contract: call by call, and at most twice 66 rows.
 use mathlib.Core.Path.{_≡_, _∙_}
 use mathlib.Core.Bool.{cond, _&&_}
 use Prim.Native.Nat.{_+_, _*_, _-_, _^_, _≤_}

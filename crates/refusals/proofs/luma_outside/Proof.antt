@@ -1,4 +1,4 @@
--- `refusals::luma_outside` meets its contract: at most 128 columns, and four strides and four columns before. Assumes nothing.
+-- `refusals::luma_outside` meets its contract: at most 128 columns, and four strides and four columns before.
 use mathlib.Core.Path.{_∙_}
 use Prim.Native.Nat.{_+_, _*_}
 use native.Mathlib.Nat.{mul-le-mul}

@@ -1,4 +1,4 @@
--- `refusals::luma_rows` meets its contract: by the test. Assumes nothing.
+-- `refusals::luma_rows` meets its contract: by the test.
 use mathlib.Core.Path.{_≡_, sym, _∙_}
 use mathlib.Core.Bool.{true, false, _&&_}
 use native.Mathlib.Omega.{arith}

@@ -1,4 +1,4 @@
--- `refusals::most` meets its contract: after k turns m is the largest of the first k. Assumes nothing.
+-- `refusals::most` meets its contract: after k turns m is the largest of the first k.
 use mathlib.Core.Path.{_≡_, sym, _∙_}
 use Prim.Native.Nat.{_-_, _≤_, max}
 use native.Mathlib.Omega.{arith}

@@ -1,4 +1,4 @@
--- `refusals::past_filters` meets its contract: the classes before k passed. Assumes nothing.
+-- `refusals::past_filters` meets its contract: the classes before k passed.
 use mathlib.Core.Path.{_≡_, sym, ap}
 use mathlib.Core.Bool.{true, not}
 use Prim.Native.Nat.{_-_, _/_, _≤_}

@@ -1,4 +1,4 @@
--- `refusals::set_size` meets its contract: by the number. Assumes nothing.
+-- `refusals::set_size` meets its contract: by the number.
 use native.Mathlib.Omega.{arith}
 use borrow.Author.Needs.{needs}
 use Rattle.refusals.proofs.Refused.{set-size-other}

@@ -1,4 +1,4 @@
--- `refusals::twice` meets its contract: the power is 0 or 1. Assumes nothing.
+-- `refusals::twice` meets its contract: the power is 0 or 1.
 use mathlib.Core.Path.{_≡_}
 use native.Mathlib.Omega.{arith}
 use Rattle.refusals.proofs.twice.Statement.{statement}

@@ -1,9 +1,9 @@
--- `refusals::unit_status` meets its contract: the first four conditions decide, or bound what the others are worked out from. Assumes nothing.
+-- `refusals::unit_status` meets its contract: the first four conditions decide, or bound what the others are worked out from.
 use mathlib.Core.Path.{sym, _∙_}
 use borrow.Author.Needs.{needs}
 use Rattle.definition.specs.Refusals.{unitStatus}
 use Rattle.laws.proofs.Checks.{stops, passes}
-use Rattle.edges.specs.Operations.{operationOf}
+use Rattle.operations.specs.Operations.{operationOf}
 use Rattle.refusals.specs.Given.{givenOf, sizesGiven}
 use Rattle.refusals.specs.Table.{firstChecks, laterChecks}
 use Rattle.refusals.proofs.Refused.{within}

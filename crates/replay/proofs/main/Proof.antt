@@ -1,4 +1,4 @@
--- `replay::main` meets its contract. Assumes nothing.
+-- `replay::main` meets its contract.
 use Prim.Native.Nat.{_-_, _≤_}
 use native.Mathlib.Omega.{arith}
 use borrow.Author.Needs.{needs}

@@ -1,4 +1,4 @@
--- `units::open_n` meets its contract: the opening of its kind. Assumes nothing.
+-- `units::open_n` meets its contract: the opening of its kind.
 use borrow.Author.Needs.{needs}
 use Rattle.units.proofs.open_n.Statement.{statement}
 use Rattle.units.proofs.open_n.Tie as tie

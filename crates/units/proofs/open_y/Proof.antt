@@ -1,4 +1,4 @@
--- `units::open_y` meets its contract: the opening of its kind. Assumes nothing.
+-- `units::open_y` meets its contract: the opening of its kind.
 use lib.IntN.{pos}
 use borrow.Author.Needs.{needs}
 use Rattle.units.proofs.open_y.Statement.{statement}

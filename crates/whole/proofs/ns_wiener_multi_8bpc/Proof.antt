@@ -1,4 +1,4 @@
--- `whole::ns_wiener_multi_8bpc` meets its contract: demand 2, by the theorem of demand 3 at the history of one advance. Assumes nothing.
+-- `whole::ns_wiener_multi_8bpc` meets its contract: demand 2, by the theorem of demand 3 at the history of one advance.
 use mir.Syntax.{w32}
 use mir.Val.{toZ, ofZ}
 use mir.Facts.{toZ-ofZ}

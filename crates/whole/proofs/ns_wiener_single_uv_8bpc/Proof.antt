@@ -1,4 +1,4 @@
--- `whole::ns_wiener_single_uv_8bpc` meets its contract: demand 2, by the theorem of demand 3 at the history of one advance. Assumes nothing.
+-- `whole::ns_wiener_single_uv_8bpc` meets its contract: demand 2, by the theorem of demand 3 at the history of one advance.
 use mathlib.Core.Path.{refl}
 use Rattle.definition.specs.Units.{chroma}
 use Rattle.units.specs.Lent.{chromaLent}

@@ -1,4 +1,4 @@
--- `filter::chroma::compact_at` meets its contract: a tap of at most 2 rows and columns stays among the five rows and in its row. Assumes nothing.
+-- `filter::chroma::compact_at` meets its contract: a tap of at most 2 rows and columns stays among the five rows and in its row.
 use borrow.Author.Needs.{needs}
 use native.Mathlib.Omega.{arith}
 use mathlib.Core.Path.{_≡_, ap, _∙_}

@@ -1,4 +1,4 @@
--- `filter::chroma::gather` meets its contract: after k turns the first k rows are gathered. Assumes nothing.
+-- `filter::chroma::gather` meets its contract: after k turns the first k rows are gathered.
 use native.Mathlib.Omega.{arith}
 use mathlib.Core.Path.{_≡_, refl}
 use Prim.Native.Nat.{_+_, _-_, _*_, _≤_, zero-le}

@@ -1,4 +1,4 @@
--- `filter::chroma::gather_row` meets its contract: after j turns the first j bytes are written. Assumes nothing.
+-- `filter::chroma::gather_row` meets its contract: after j turns the first j bytes are written.
 use native.Mathlib.Omega.{arith}
 use mathlib.Core.Path.{_≡_, refl}
 use Prim.Native.Nat.{_-_, _≤_}

@@ -1,4 +1,4 @@
--- `filter::chroma::luma_tap` meets its contract: the rules of `Held`, in the order of the code. Assumes nothing.
+-- `filter::chroma::luma_tap` meets its contract: the rules of `Held`, in the order of the code.
 use borrow.Author.Needs.{needs}
 use native.Mathlib.Omega.{arith}
 use Prim.Native.Nat.{_+_, _<_}

@@ -1,4 +1,4 @@
--- `filter::chroma::uv_luma_at` meets its contract: the table's tap k is the definition's. Assumes nothing.
+-- `filter::chroma::uv_luma_at` meets its contract: the table's tap k is the definition's.
 use borrow.Author.Needs.{needs}
 use mathlib.Core.Path.{_∙_}
 use lib.Dec.{lit≤}

@@ -1,4 +1,4 @@
--- `filter::chroma::uv_luma_sum` meets its contract: each call hands the next the sum so far. Assumes nothing.
+-- `filter::chroma::uv_luma_sum` meets its contract: each call hands the next the sum so far.
 use mathlib.Core.Path.{refl}
 use lib.Dec.{lit<, lit≤}
 use Rattle.laws.proofs.Sums.{begun}

@@ -1,4 +1,4 @@
--- `filter::chroma::uv_narrow_luma_sum` meets its contract: each call hands the next the sum of its group, and each group's sum is added to those before. Assumes nothing.
+-- `filter::chroma::uv_narrow_luma_sum` meets its contract: each call hands the next the sum of its group, and each group's sum is added to those before.
 use mathlib.Core.Path.{refl}
 use Prim.Native.Nat.{ℕ}
 use lib.Dec.{lit<, lit≤}

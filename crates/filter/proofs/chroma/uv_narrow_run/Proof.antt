@@ -1,4 +1,4 @@
--- `filter::chroma::uv_narrow_run` meets its contract: after each turn the first x samples are written. Assumes nothing.
+-- `filter::chroma::uv_narrow_run` meets its contract: after each turn the first x samples are written.
 use native.Mathlib.Omega.{arith}
 use mathlib.Core.Path.{_≡_, refl, _∙_}
 use Prim.Native.Nat.{ℕ, _+_, _-_}

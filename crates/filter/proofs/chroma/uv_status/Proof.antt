@@ -1,4 +1,4 @@
--- `filter::chroma::uv_status` meets its contract: the call's answer is the first part of the definition's test, the code's own tests the rest. Assumes nothing.
+-- `filter::chroma::uv_status` meets its contract: the call's answer is the first part of the definition's test, the code's own tests the rest.
 use borrow.Author.Needs.{needs}
 use native.Mathlib.Omega.{arith}
 use native.Mathlib.Nat.{mul-le-mul, le-refl}

@@ -1,4 +1,4 @@
--- `filter::chroma::uv_step` meets its contract: the calls add what tap k of the definition adds. Assumes nothing.
+-- `filter::chroma::uv_step` meets its contract: the calls add what tap k of the definition adds.
 use borrow.Author.Needs.{needs}
 use native.Mathlib.Omega.{arith}
 use mir.Facts.{toZ-ofZ}

@@ -1,4 +1,4 @@
--- `filter::chroma::uv_sum` meets its contract: two sums below 2 ^ 29. Assumes nothing.
+-- `filter::chroma::uv_sum` meets its contract: two sums below 2 ^ 29.
 use native.Mathlib.Omega.{arith}
 use Prim.Native.Nat.{_+_, _<_, _^_}
 use lib.IntN.{natAbs}

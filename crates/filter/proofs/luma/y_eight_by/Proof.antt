@@ -1,4 +1,4 @@
--- `filter::luma::y_eight_by` meets its contract: the copy is the filter, so both answer the same. Assumes nothing.
+-- `filter::luma::y_eight_by` meets its contract: the copy is the filter, so both answer the same.
 use borrow.Author.Needs.{needs}
 use mathlib.Core.List.{List}
 use mathlib.Core.Path.{ap, _∙_}

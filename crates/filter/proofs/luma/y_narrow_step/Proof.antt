@@ -1,4 +1,4 @@
--- `filter::luma::y_narrow_step` meets its contract: the calls add what tap g + j of the definition adds. Assumes nothing.
+-- `filter::luma::y_narrow_step` meets its contract: the calls add what tap g + j of the definition adds.
 use borrow.Author.Needs.{needs}
 use native.Mathlib.Omega.{arith}
 use mathlib.Core.Path.{_∙_}

@@ -1,4 +1,4 @@
--- `filter::luma::y_narrow_sum` meets its contract: each call hands the next the sum of its group, and each group's sum is added to those before. Assumes nothing.
+-- `filter::luma::y_narrow_sum` meets its contract: each call hands the next the sum of its group, and each group's sum is added to those before.
 use native.Mathlib.Omega.{arith}
 use Prim.Native.Nat.{ℕ}
 use lib.Dec.{lit<, lit≤}

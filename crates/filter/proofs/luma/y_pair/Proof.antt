@@ -1,4 +1,4 @@
--- `filter::luma::y_pair` meets its contract: the table's tap k is the definition's. Assumes nothing.
+-- `filter::luma::y_pair` meets its contract: the table's tap k is the definition's.
 use borrow.Author.Needs.{needs}
 use lib.Dec.{lit<, lit≤}
 use Rattle.definition.specs.Sample.{nsConfigY}

@@ -1,4 +1,4 @@
--- `filter::luma::y_sum` meets its contract: each call hands the next the sum so far. Assumes nothing.
+-- `filter::luma::y_sum` meets its contract: each call hands the next the sum so far.
 use native.Mathlib.Omega.{arith}
 use lib.Dec.{lit<}
 use Rattle.filter.proofs.Steps.{started, onward}

@@ -1,4 +1,4 @@
--- `filter::narrow::difference` meets its contract: neither number is over the limit of a pair, and so neither is their difference. Assumes nothing.
+-- `filter::narrow::difference` meets its contract: neither number is over the limit of a pair, and so neither is their difference.
 use borrow.Author.Needs.{needs}
 use lib.Dec.{lit<}
 use lib.IntN.{pos}

@@ -1,4 +1,4 @@
--- `filter::narrow::is_large` meets its contract: both tests failed. Assumes nothing.
+-- `filter::narrow::is_large` meets its contract: both tests failed.
 use borrow.Author.Needs.{needs}
 use native.Mathlib.Omega.{arith}
 use mathlib.Core.Path.{sym, _∙_}

@@ -1,4 +1,4 @@
--- `filter::narrow::is_small` meets its contract: where none of the first k is large, each of them is small. Assumes nothing.
+-- `filter::narrow::is_small` meets its contract: where none of the first k is large, each of them is small.
 use native.Mathlib.Omega.{arith}
 use mathlib.Core.Bool.{true}
 use mathlib.Core.Logic.{⊎-elim}

@@ -1,4 +1,4 @@
--- `filter::narrow::narrow_tap` meets its contract: a factor of a pair's size times a small number, on top of two such taps. Assumes nothing.
+-- `filter::narrow::narrow_tap` meets its contract: a factor of a pair's size times a small number, on top of two such taps.
 use native.Mathlib.Omega.{arith}
 use Prim.Native.Nat.{_+_, _^_, _<_}
 use lib.Dec.{lit<}

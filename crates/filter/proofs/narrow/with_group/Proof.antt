@@ -1,4 +1,4 @@
--- `filter::narrow::with_group` meets its contract: a number of 16 bits added to a sum below 2 ^ 30 does not leave 32 bits. Assumes nothing.
+-- `filter::narrow::with_group` meets its contract: a number of 16 bits added to a sum below 2 ^ 30 does not leave 32 bits.
 use native.Mathlib.Omega.{arith}
 use lib.IntN.{natAbs}
 use Prim.Native.Nat.{_+_, _<_}

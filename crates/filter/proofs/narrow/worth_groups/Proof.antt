@@ -1,4 +1,4 @@
--- `filter::narrow::worth_groups` meets its contract: it answers true only where `is_small` does. Assumes nothing.
+-- `filter::narrow::worth_groups` meets its contract: it answers true only where `is_small` does.
 use borrow.Author.Needs.{needs}
 use Rattle.laws.proofs.Ints.{never}
 use Rattle.filter.proofs.narrow.worth_groups.Statement.{statement}

@@ -1,4 +1,4 @@
--- `filter::pretrained::is_small_set` meets its contract: where none of the first k is large, each of them is small. Assumes nothing.
+-- `filter::pretrained::is_small_set` meets its contract: where none of the first k is large, each of them is small.
 use native.Mathlib.Omega.{arith}
 use mathlib.Core.Logic.{⊎-elim}
 use mathlib.Core.Path.{_≡_}

@@ -1,4 +1,4 @@
--- `filter::pretrained::pc_centre` meets its contract: a byte times a number of 16 bits. Assumes nothing.
+-- `filter::pretrained::pc_centre` meets its contract: a byte times a number of 16 bits.
 use borrow.Author.Needs.{needs}
 use native.Mathlib.Omega.{arith}
 use mathlib.Core.Path.{_∙_}

@@ -1,4 +1,4 @@
--- `filter::pretrained::pc_eight` meets its contract: after j turns the first j samples are worked out. Assumes nothing.
+-- `filter::pretrained::pc_eight` meets its contract: after j turns the first j samples are worked out.
 use native.Mathlib.Omega.{arith}
 use mathlib.Core.Path.{_≡_, refl, ap, _∙_}
 use Prim.Native.Nat.{ℕ, _+_, _-_, _≤_}

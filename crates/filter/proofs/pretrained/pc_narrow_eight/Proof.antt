@@ -1,4 +1,4 @@
--- `filter::pretrained::pc_narrow_eight` meets its contract: after j turns the first j samples are worked out. Assumes nothing.
+-- `filter::pretrained::pc_narrow_eight` meets its contract: after j turns the first j samples are worked out.
 use borrow.Author.Needs.{needs}
 use native.Mathlib.Omega.{arith}
 use mathlib.Core.Path.{_≡_, refl, ap, _∙_}

@@ -1,4 +1,4 @@
--- `filter::pretrained::pc_narrow_sum` meets its contract: each call hands the next the sum of its group, and each group's sum is added to those before. Assumes nothing.
+-- `filter::pretrained::pc_narrow_sum` meets its contract: each call hands the next the sum of its group, and each group's sum is added to those before.
 use mathlib.Core.Path.{_∙_}
 use Prim.Native.Nat.{ℕ}
 use lib.Dec.{lit<, lit≤}

@@ -1,4 +1,4 @@
--- `filter::pretrained::pc_start` meets its contract: what is taken off and the centre's part, each bounded, add up without a carry. Assumes nothing.
+-- `filter::pretrained::pc_start` meets its contract: what is taken off and the centre's part, each bounded, add up without a carry.
 use borrow.Author.Needs.{needs}
 use mathlib.Core.Path.{_∙_}
 use lib.Dec.{lit<}

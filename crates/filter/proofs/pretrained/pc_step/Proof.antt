@@ -1,4 +1,4 @@
--- `filter::pretrained::pc_step` meets its contract: the calls add what tap k of the definition adds. Assumes nothing.
+-- `filter::pretrained::pc_step` meets its contract: the calls add what tap k of the definition adds.
 use borrow.Author.Needs.{needs}
 use native.Mathlib.Omega.{arith}
 use lib.ListN.{getD}

@@ -1,4 +1,4 @@
--- `filter::pretrained::pc_sum` meets its contract: each call hands the next the sum so far. Assumes nothing.
+-- `filter::pretrained::pc_sum` meets its contract: each call hands the next the sum so far.
 use lib.Dec.{lit<}
 use Rattle.filter.proofs.Lessened.{passed-off}
 use Rattle.filter.proofs.Steps.{onward}

@@ -1,4 +1,4 @@
--- `filter::pretrained::pc_tap` meets its contract: the rules of `Held`, in the order of the code. Assumes nothing.
+-- `filter::pretrained::pc_tap` meets its contract: the rules of `Held`, in the order of the code.
 use borrow.Author.Needs.{needs}
 use native.Mathlib.Omega.{arith}
 use Prim.Native.Nat.{_+_, _<_}

@@ -1,4 +1,4 @@
--- `filter::pretrained::taken_off` meets its contract: after k turns the first k numbers are added up. Assumes nothing.
+-- `filter::pretrained::taken_off` meets its contract: after k turns the first k numbers are added up.
 use native.Mathlib.Omega.{arith}
 use mathlib.Core.Path.{_≡_}
 use mathlib.Core.List.{List}

@@ -1,4 +1,4 @@
--- `filter::taps::byte_at` meets its contract: a tap that stays among the ten indices and in its row reads a byte of that row. Assumes nothing.
+-- `filter::taps::byte_at` meets its contract: a tap that stays among the ten indices and in its row reads a byte of that row.
 use borrow.Author.Needs.{needs}
 use native.Mathlib.Omega.{arith}
 use mathlib.Core.Path.{_≡_, ap, _∙_}

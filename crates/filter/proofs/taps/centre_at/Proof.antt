@@ -1,4 +1,4 @@
--- `filter::taps::centre_at` meets its contract: a tap of no rows and no columns. Assumes nothing.
+-- `filter::taps::centre_at` meets its contract: a tap of no rows and no columns.
 use native.Mathlib.Omega.{arith}
 use lib.Dec.{lit<}
 use Rattle.filter.proofs.taps.centre_at.Statement.{statement}

@@ -1,4 +1,4 @@
--- `filter::taps::clipped` meets its contract: each way out is a law of `Rounding`. Assumes nothing.
+-- `filter::taps::clipped` meets its contract: each way out is a law of `Rounding`.
 use mathlib.Core.Path.{sym, ap, _∙_}
 use lib.IntN.{pos}
 use lib.Signed.{pos-natAbs}

@@ -1,4 +1,4 @@
--- `filter::taps::moved` meets its contract: the rules of `Held`, and a sum that is not negative. Assumes nothing.
+-- `filter::taps::moved` meets its contract: the rules of `Held`, and a sum that is not negative.
 use borrow.Author.Needs.{needs}
 use native.Mathlib.Omega.{arith}
 use Prim.Native.Nat.{_+_, _^_}

@@ -1,4 +1,4 @@
--- `filter::taps::ns_start` meets its contract: 128 times a byte fits. Assumes nothing.
+-- `filter::taps::ns_start` meets its contract: 128 times a byte fits.
 use borrow.Author.Needs.{needs}
 use native.Mathlib.Omega.{arith}
 use mathlib.Core.Path.{ap, _∙_}

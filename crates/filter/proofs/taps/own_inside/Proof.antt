@@ -1,4 +1,4 @@
--- `filter::taps::own_inside` meets its contract: the tests of the definition in its order, each decided by the code's. Assumes nothing.
+-- `filter::taps::own_inside` meets its contract: the tests of the definition in its order, each decided by the code's.
 use borrow.Author.Needs.{needs}
 use mathlib.Core.Path.{_≡_, sym, _∙_}
 use mathlib.Core.Bool.{true, _&&_}

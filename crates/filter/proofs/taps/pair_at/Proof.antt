@@ -1,4 +1,4 @@
--- `filter::taps::pair_at` meets its contract: the mirrored tap is as far from the centre, so it stays in the row too. Assumes nothing.
+-- `filter::taps::pair_at` meets its contract: the mirrored tap is as far from the centre, so it stays in the row too.
 use borrow.Author.Needs.{needs}
 use native.Mathlib.Omega.{arith}
 use mathlib.Core.Path.{_≡_, _∙_}

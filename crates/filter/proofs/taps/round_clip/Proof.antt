@@ -1,4 +1,4 @@
--- `filter::taps::round_clip` meets its contract: what the machine holds of (s + 64) >> 7 is clipped. Assumes nothing.
+-- `filter::taps::round_clip` meets its contract: what the machine holds of (s + 64) >> 7 is clipped.
 use native.Mathlib.Omega.{arith}
 use mathlib.Core.Path.{_≡_, ap, _∙_}
 use lib.Dec.{lit<, lit≤}

@@ -1,4 +1,4 @@
--- `filter::taps::run_status` meets its contract: the call's answer is the definition's test. Assumes nothing.
+-- `filter::taps::run_status` meets its contract: the call's answer is the definition's test.
 use borrow.Author.Needs.{needs}
 use mathlib.Core.Path.{sym, ap, _∙_}
 use borrow.Author.Tests.{not-true, not-false}

@@ -1,4 +1,4 @@
--- `filter::turns::put` meets its contract: where all eight are stored none is left out. Assumes nothing.
+-- `filter::turns::put` meets its contract: where all eight are stored none is left out.
 use native.Mathlib.Omega.{arith}
 use mathlib.Core.Path.{_≡_, sym, ap, _∙_}
 use mathlib.Core.List.{List}

@@ -1,4 +1,4 @@
--- `filter::turns::put_eight` meets its contract: after j turns the first j samples are stored. Assumes nothing.
+-- `filter::turns::put_eight` meets its contract: after j turns the first j samples are stored.
 use native.Mathlib.Omega.{arith}
 use mathlib.Core.Path.{_≡_, refl}
 use Prim.Native.Nat.{_-_, _≤_}

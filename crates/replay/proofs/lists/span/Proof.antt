@@ -1,4 +1,4 @@
--- `replay::lists::span` meets its contract. Assumes nothing.
+-- `replay::lists::span` meets its contract.
 use native.Mathlib.Nat.{mul-le-mul}
 use native.Mathlib.Omega.{arith}
 use Prim.Native.Nat.{_*_, _≤_}

@@ -1,4 +1,4 @@
--- `replay::numbers::below` meets its contract. Assumes nothing.
+-- `replay::numbers::below` meets its contract.
 use native.Mathlib.Nat.{mod-lt}
 use borrow.Author.Needs.{needs}
 use Rattle.replay.proofs.numbers.below.Statement.{statement}

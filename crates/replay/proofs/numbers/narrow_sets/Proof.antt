@@ -1,4 +1,4 @@
--- `replay::numbers::narrow_sets` meets its contract. The loop's invariant: the count so far is at most the length, which stays. Assumes nothing.
+-- `replay::numbers::narrow_sets` meets its contract. The loop's invariant: the count so far is at most the length, which stays.
 use Prim.Native.Nat.{_-_, _≤_}
 use mathlib.Core.Path.{_≡_}
 use lib.ListN.{length, length-set}

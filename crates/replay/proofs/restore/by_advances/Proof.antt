@@ -1,4 +1,4 @@
--- `replay::restore::by_advances` meets its contract: each advance keeps the length of the plane. Assumes nothing.
+-- `replay::restore::by_advances` meets its contract: each advance keeps the length of the plane.
 use Prim.Native.Nat.{_-_, _≤_}
 use mathlib.Core.Path.{_≡_}
 use lib.ListN.{length}

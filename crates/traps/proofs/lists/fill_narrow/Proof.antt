@@ -1,4 +1,4 @@
--- `traps::lists::fill_narrow` meets its contract. The loop's invariant: the count so far is at most the length, which stays. Assumes nothing.
+-- `traps::lists::fill_narrow` meets its contract. The loop's invariant: the count so far is at most the length, which stays.
 use Prim.Native.Nat.{_-_, _≤_}
 use mathlib.Core.Path.{_≡_}
 use lib.ListN.{length, length-set}

@@ -1,4 +1,4 @@
--- `traps::lists::print_row` meets its contract. Assumes nothing.
+-- `traps::lists::print_row` meets its contract.
 use Prim.Native.Nat.{_-_, _≤_}
 use native.Mathlib.Omega.{arith}
 use borrow.Author.Needs.{needs}

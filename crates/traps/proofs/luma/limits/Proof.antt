@@ -1,4 +1,4 @@
--- `traps::luma::limits` meets its contract. Each unit keeps the length of the plane. Assumes nothing.
+-- `traps::luma::limits` meets its contract. Each unit keeps the length of the plane.
 use Prim.Native.Nat.{_-_, _≤_}
 use mathlib.Core.Path.{_≡_}
 use lib.ListN.{length}

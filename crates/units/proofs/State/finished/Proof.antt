@@ -1,4 +1,4 @@
--- `State::finished` meets its contract: by whether the state is of a unit. Assumes nothing.
+-- `State::finished` meets its contract: by whether the state is of a unit.
 use borrow.Author.Tests.{eq-eqb, ne-eqb}
 use Rattle.units.proofs.State.finished.Statement.{statement}
 use Rattle.units.proofs.State.finished.Tie as tie

@@ -1,4 +1,4 @@
--- `advance::advance` meets its contract: declined with the state unchanged, or so many rows one after another. Assumes nothing.
+-- `advance::advance` meets its contract: declined with the state unchanged, or so many rows one after another.
 use mathlib.Core.Path.{_≡_, refl, sym, _∙_, ap}
 use native.Mathlib.Omega.{arith}
 use lib.IntN.{ℤ}
@@ -7,7 +7,7 @@ use mir.Syntax.{w32}
 use mir.Val.{toZ, ofZ}
 use mir.Facts.{toZ-ofZ}
 use Rattle.definition.specs.Units.{Lent}
-use Rattle.edges.specs.Operations.{operationOf}
+use Rattle.operations.specs.Operations.{operationOf}
 use Rattle.units.specs.Lent.{unitLent}
 use Rattle.units.specs.Operations.{statusBy}
 use Rattle.units.specs.Advances.{Admitted}

@@ -1,4 +1,4 @@
--- `units::advance_status` meets its contract: the shape decides, the kept classes, or the table. Assumes nothing.
+-- `units::advance_status` meets its contract: the shape decides, the kept classes, or the table.
 use mathlib.Core.Path.{sym, _∙_}
 use borrow.Author.Needs.{needs}
 use Rattle.refusals.specs.Given.{sizesGiven}

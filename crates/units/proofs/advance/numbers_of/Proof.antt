@@ -1,4 +1,4 @@
--- `advance::numbers_of` meets its contract, by the kind of unit. Assumes nothing.
+-- `advance::numbers_of` meets its contract, by the kind of unit.
 use Rattle.units.proofs.OfKind.{wide-filters, narrow-filters}
 use Rattle.units.proofs.advance.numbers_of.Statement.{statement}
 use Rattle.units.proofs.advance.numbers_of.Tie as tie

@@ -1,4 +1,4 @@
--- `advance::restored_rows` meets its contract. The loop's invariant: the plane, the rings and the classes are those after i rows. Assumes nothing.
+-- `advance::restored_rows` meets its contract. The loop's invariant: the plane, the rings and the classes are those after i rows.
 use mathlib.Core.Path.{_≡_}
 use Prim.Native.Nat.{ℕ, _+_, _-_, _≤_}
 use native.Mathlib.Omega.{arith}
@@ -8,7 +8,7 @@ use mir.Syntax.{w32}
 use mir.Val.{toZ, ofZ}
 use mir.Facts.{toZ-ofZ}
 use Rattle.definition.specs.Units.{Lent}
-use Rattle.edges.specs.Operations.{operationOf}
+use Rattle.operations.specs.Operations.{operationOf}
 use Rattle.units.specs.declared.State.{State}
 use Rattle.units.specs.Lent.{filtersOf, unitLent}
 use Rattle.units.specs.Windows.{ring}

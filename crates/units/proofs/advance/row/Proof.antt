@@ -1,4 +1,4 @@
--- `advance::row` meets its contract: what the row is restored from, the row, the windows moved on. Assumes nothing.
+-- `advance::row` meets its contract: what the row is restored from, the row, the windows moved on.
 use mathlib.Core.Path.{_≡_}
 use native.Mathlib.Omega.{arith}
 use lib.ListN.{length}
@@ -6,7 +6,7 @@ use mir.Syntax.{w32}
 use mir.Val.{toZ, ofZ}
 use mir.Facts.{toZ-ofZ}
 use Rattle.definition.specs.Units.{Lent}
-use Rattle.edges.specs.Operations.{operationOf}
+use Rattle.operations.specs.Operations.{operationOf}
 use Rattle.units.specs.Lent.{unitLent}
 use Rattle.units.proofs.Sources.{plane-inside}
 use Rattle.units.proofs.OneRow.{taken-sound, stepped}

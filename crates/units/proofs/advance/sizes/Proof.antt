@@ -1,4 +1,4 @@
--- `advance::sizes` meets its contract: the lengths, and the map's test. Assumes nothing.
+-- `advance::sizes` meets its contract: the lengths, and the map's test.
 use borrow.Author.Needs.{needs}
 use Rattle.units.proofs.advance.sizes.Statement.{statement}
 use Rattle.units.proofs.advance.sizes.Tie as tie

@@ -1,4 +1,4 @@
--- `advance::slide` meets its contract, by the kind of unit. Assumes nothing.
+-- `advance::slide` meets its contract, by the kind of unit.
 use mathlib.Core.Path.{_∙_}
 use Rattle.units.proofs.OfKind.{one-window}
 use borrow.Author.Needs.{needs}

@@ -1,4 +1,4 @@
--- `advance::taken` meets its contract: the newest row, then by the kind of unit the newest luma row, nothing, or at the start of a block row its classes. Assumes nothing.
+-- `advance::taken` meets its contract: the newest row, then by the kind of unit the newest luma row, nothing, or at the start of a block row its classes.
 use mathlib.Core.Path.{_≡_}
 use mathlib.Core.Bool.{true}
 use Prim.Native.Nat.{ℕ, _≤_}
@@ -9,7 +9,7 @@ use mir.Val.{toZ, ofZ}
 use mir.Facts.{toZ-ofZ}
 use Rattle.definition.specs.Units.{Lent}
 use Rattle.definition.specs.Refusals.{indexLimit, nextLimit}
-use Rattle.edges.specs.Operations.{operationOf}
+use Rattle.operations.specs.Operations.{operationOf}
 use Rattle.refusals.specs.Table.{classed}
 use Rattle.refusals.proofs.Chosen.{when-classed}
 use Rattle.units.specs.Lent.{unitLent}

@@ -1,4 +1,4 @@
--- `chroma::columns` meets its contract. Assumes nothing.
+-- `chroma::columns` meets its contract.
 use native.Mathlib.Omega.{arith}
 use mathlib.Core.Path.{_≡_}
 use Rattle.units.proofs.chroma.columns.Statement.{statement}

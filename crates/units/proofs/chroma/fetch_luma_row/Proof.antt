@@ -1,4 +1,4 @@
--- `units::chroma::fetch_luma_row` meets its contract, by whether the row has a slot of its own. Assumes nothing.
+-- `units::chroma::fetch_luma_row` meets its contract, by whether the row has a slot of its own.
 use borrow.Author.Needs.{needs}
 use Rattle.units.proofs.TwoRings.{luma-own, luma-again}
 use Rattle.units.proofs.chroma.fetch_luma_row.Statement.{statement}

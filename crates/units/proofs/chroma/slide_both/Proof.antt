@@ -1,4 +1,4 @@
--- `units::chroma::slide_both` meets its contract. The loop's invariant: j indices of each ring are slid. Assumes nothing.
+-- `units::chroma::slide_both` meets its contract. The loop's invariant: j indices of each ring are slid.
 use mathlib.Core.Path.{_≡_, sym}
 use mathlib.Core.List.{_++_}
 use Prim.Native.Nat.{_-_, _≤_}

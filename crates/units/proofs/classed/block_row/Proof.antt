@@ -1,4 +1,4 @@
--- `classed::block_row` meets its contract: the row five below in the tenth slot, and the classes from the rows with it. Assumes nothing.
+-- `classed::block_row` meets its contract: the row five below in the tenth slot, and the classes from the rows with it.
 use mathlib.Core.Path.{_≡_, refl, _∙_, ap}
 use mathlib.Core.List.{List}
 use Prim.Native.Nat.{ℕ, _*_}
@@ -7,7 +7,7 @@ use lib.Seq.{sets}
 use mir.Syntax.{w32}
 use mir.Val.{toZ, ofZ}
 use mir.Facts.{toZ-ofZ}
-use Rattle.edges.proofs.Borders.{border-four}
+use Rattle.operations.proofs.Borders.{border-four}
 use Rattle.history.specs.Ring.{set-low}
 use borrow.Author.Needs.{needs}
 use Rattle.units.proofs.classed.block_row.Statement.{statement}

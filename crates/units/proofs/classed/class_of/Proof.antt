@@ -1,4 +1,4 @@
--- `classed::class_of` meets its contract: the call for the index is not refused, and the index is below the map's size. Assumes nothing.
+-- `classed::class_of` meets its contract: the call for the index is not refused, and the index is below the map's size.
 use mathlib.Core.Path.{_≡_, _∙_, ap}
 use Prim.Native.Nat.{ℕ, _*_, _<_}
 use lib.IntN.{ℤ}

@@ -1,4 +1,4 @@
--- `classed::classes_of_row` meets its contract. The loop's invariant: the classes of the blocks before bx are stored. Assumes nothing.
+-- `classed::classes_of_row` meets its contract. The loop's invariant: the classes of the blocks before bx are stored.
 use mathlib.Core.Path.{_≡_, refl, _∙_, ap}
 use Prim.Native.Nat.{ℕ, _-_, _*_, _/_, _≤_, _<_}
 use native.Mathlib.Nat.{zero-add}

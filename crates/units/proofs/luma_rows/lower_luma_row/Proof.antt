@@ -1,4 +1,4 @@
--- `units::luma_rows::lower_luma_row` meets its contract: for each of the five sources, `LumaSources` has that it lies inside and that it is the definition's row. Assumes nothing.
+-- `units::luma_rows::lower_luma_row` meets its contract: for each of the five sources, `LumaSources` has that it lies inside and that it is the definition's row.
 use mathlib.Core.Path.{_∙_}
 use Prim.Native.Nat.{_-_}
 use native.Mathlib.Omega.{arith}

@@ -1,4 +1,4 @@
--- `units::luma_rows::open_luma_rows` meets its contract. The loop's invariant: the rows before n are filled, behind the chroma rows as they were. Assumes nothing.
+-- `units::luma_rows::open_luma_rows` meets its contract. The loop's invariant: the rows before n are filled, behind the chroma rows as they were.
 use mathlib.Core.Path.{_≡_}
 use mathlib.Core.List.{_++_}
 use Prim.Native.Nat.{_-_, _≤_}

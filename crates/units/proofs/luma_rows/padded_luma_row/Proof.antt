@@ -1,4 +1,4 @@
--- `units::luma_rows::padded_luma_row` meets its contract: a row above the unit, or one beside it or below. Assumes nothing.
+-- `units::luma_rows::padded_luma_row` meets its contract: a row above the unit, or one beside it or below.
 use mathlib.Core.Path.{_≡_, _∙_, ap}
 use Prim.Native.Nat.{_+_, _-_}
 use native.Mathlib.Omega.{arith}

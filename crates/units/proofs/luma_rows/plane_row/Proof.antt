@@ -1,4 +1,4 @@
--- `units::luma_rows::plane_row` meets its contract: the rows are counted in luma's. Assumes nothing.
+-- `units::luma_rows::plane_row` meets its contract: the rows are counted in luma's.
 use mathlib.Core.Path.{_∙_, ap}
 use Prim.Native.Nat.{ℕ, _+_, _*_, _≤_}
 use native.Mathlib.Omega.{arith}

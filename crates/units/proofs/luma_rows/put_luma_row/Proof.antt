@@ -1,4 +1,4 @@
--- `units::luma_rows::put_luma_row` meets its contract. The loop's invariant: the first j bytes of the row are stored. Assumes nothing.
+-- `units::luma_rows::put_luma_row` meets its contract. The loop's invariant: the first j bytes of the row are stored.
 use mathlib.Core.Path.{_≡_, refl, _∙_, ap}
 use Prim.Native.Nat.{_+_, _*_, _-_, _≤_}
 use native.Mathlib.Omega.{arith}

@@ -1,4 +1,4 @@
--- `units::luma_rows::row_from` meets its contract: the padding is not refused. Assumes nothing.
+-- `units::luma_rows::row_from` meets its contract: the padding is not refused.
 use mathlib.Core.Path.{_∙_}
 use borrow.Author.Needs.{needs}
 use Rattle.refusals.specs.Given.{givenOf}

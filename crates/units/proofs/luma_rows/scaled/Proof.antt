@@ -1,4 +1,4 @@
--- `units::luma_rows::scaled` meets its contract: 2 ^ ss is 1 or 2. Assumes nothing.
+-- `units::luma_rows::scaled` meets its contract: 2 ^ ss is 1 or 2.
 use mathlib.Core.Path.{_≡_, sym}
 use native.Mathlib.Nat.{mul-one}
 use native.Mathlib.Omega.{arith}

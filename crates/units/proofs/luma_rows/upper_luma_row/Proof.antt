@@ -1,4 +1,4 @@
--- `units::luma_rows::upper_luma_row` meets its contract: for each of the four sources, `LumaSources` has that it lies inside and that it is the definition's row. Assumes nothing.
+-- `units::luma_rows::upper_luma_row` meets its contract: for each of the four sources, `LumaSources` has that it lies inside and that it is the definition's row.
 use mathlib.Core.Path.{_∙_, ap}
 use Prim.Native.Nat.{ℕ, _*_, _-_, _≤_}
 use native.Mathlib.Omega.{arith}

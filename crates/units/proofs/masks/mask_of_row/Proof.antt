@@ -1,4 +1,4 @@
--- `masks::mask_of_row` meets its contract: the block row comes before the four. Assumes nothing.
+-- `masks::mask_of_row` meets its contract: the block row comes before the four.
 use mathlib.Core.Path.{ap}
 use Prim.Native.Nat.{ℕ, _/_}
 use native.Mathlib.Nat.{mul-comm}

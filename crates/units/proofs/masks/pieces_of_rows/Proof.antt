@@ -1,4 +1,4 @@
--- `masks::pieces_of_rows` meets its contract. The loop's invariant: the pieces of i rows, at most 16 to a row. Assumes nothing.
+-- `masks::pieces_of_rows` meets its contract. The loop's invariant: the pieces of i rows, at most 16 to a row.
 use mathlib.Core.Path.{_≡_, sym, _∙_}
 use Prim.Native.Nat.{_+_, _*_, _-_, _≤_}
 use native.Mathlib.Omega.{arith}

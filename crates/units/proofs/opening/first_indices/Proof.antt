@@ -1,5 +1,5 @@
--- `opening::first_indices` meets its contract, by the kind of unit. Assumes nothing.
-use Rattle.edges.specs.Operations.{operationOf}
+-- `opening::first_indices` meets its contract, by the kind of unit.
+use Rattle.operations.specs.Operations.{operationOf}
 use Rattle.model.specs.Opening.{openRing}
 use Rattle.units.proofs.OfKind.{not-chroma}
 use Rattle.units.proofs.Openings.{first-indices}

@@ -1,6 +1,6 @@
--- `opening::first_rows` meets its contract, by the kind of unit. Assumes nothing.
+-- `opening::first_rows` meets its contract, by the kind of unit.
 use mathlib.Core.List.{[]}
-use Rattle.edges.specs.Operations.{operationOf}
+use Rattle.operations.specs.Operations.{operationOf}
 use Rattle.units.specs.Lent.{chromaLent}
 use Rattle.units.proofs.OfKind.{not-chroma}
 use Rattle.units.proofs.Openings.{first-rows}

@@ -1,4 +1,4 @@
--- `opening::first_state` meets its contract: made of the rows and the indices. Assumes nothing.
+-- `opening::first_state` meets its contract: made of the rows and the indices.
 use mathlib.Core.List.{[]}
 use Rattle.units.specs.Lent.{chromaLent}
 use Rattle.units.proofs.Openings.{first-state}

@@ -1,4 +1,4 @@
--- `opening::none` meets its contract. Assumes nothing.
+-- `opening::none` meets its contract.
 use borrow.Author.Needs.{needs}
 use Rattle.units.specs.Openings.{noState}
 use Rattle.units.proofs.opening.none.Statement.{statement}

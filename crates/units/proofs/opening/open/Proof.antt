@@ -1,10 +1,10 @@
--- `opening::open` meets its contract: declined, or the state before the first row. Assumes nothing.
+-- `opening::open` meets its contract: declined, or the state before the first row.
 use mathlib.Core.Path.{sym, _∙_, ap}
 use lib.IntN.{ℤ, pos}
 use Rattle.definition.specs.Units.{Lent}
 use Rattle.definition.specs.Refusals.{sizesOf, unitStatus}
 use Rattle.model.specs.Fine.{fine}
-use Rattle.edges.specs.Operations.{operationOf}
+use Rattle.operations.specs.Operations.{operationOf}
 use Rattle.refusals.specs.Given.{givenOf}
 use Rattle.units.specs.Lent.{unitLent}
 use Rattle.units.proofs.Fits.{fit}

@@ -1,12 +1,12 @@
 -- `restore::restore` meets its contract: the blocks below bx are done. Those before the next stretch are masked and stay; the stretch is one run under its class's set.
--- Assumes nothing.
+--
 use mathlib.Core.Path.{sym, ap}
 use mathlib.Core.List.{List}
 use Prim.Native.Nat.{ℕ, _-_, _/_, _≤_}
 use native.Mathlib.Omega.{arith}
 use lib.IntN.{ℤ}
 use lib.ListN.{getD}
-use Rattle.edges.specs.Operations.{operationOf}
+use Rattle.operations.specs.Operations.{operationOf}
 use Rattle.units.specs.Lent.{filtersOf}
 use Rattle.units.specs.Unmasked.{openOf, setFor}
 use Rattle.units.specs.Cells.{openCell, cellOf}

@@ -1,4 +1,4 @@
--- `restore::run` meets its contract: the run that goes with the kind, under the class's set. Assumes nothing.
+-- `restore::run` meets its contract: the run that goes with the kind, under the class's set.
 use Rattle.units.proofs.OfKind.{luma-or-user, at-kind, room-at, room-luma}
 use Rattle.units.proofs.Samples.{run-pretrained, run-chroma, run-luma}
 use Rattle.definition.specs.Refusals.{indexLimit}

@@ -1,4 +1,4 @@
--- `units::restore::run_y` meets its contract: the run is not refused, and the part that it was lent comes back written. Assumes nothing.
+-- `units::restore::run_y` meets its contract: the run is not refused, and the part that it was lent comes back written.
 use mathlib.Core.Path.{_≡_}
 use native.Mathlib.Omega.{arith}
 use lib.ListN.{length}

@@ -1,4 +1,4 @@
--- `restore::set_start` meets its contract, by the kind of unit. Assumes nothing.
+-- `restore::set_start` meets its contract, by the kind of unit.
 use Rattle.units.proofs.OfKind.{no-start}
 use borrow.Author.Needs.{needs}
 use Rattle.units.proofs.restore.set_start.Statement.{statement}

@@ -1,4 +1,4 @@
--- `restore::thirteen` meets its contract: after k turns the first k numbers are copied. Assumes nothing.
+-- `restore::thirteen` meets its contract: after k turns the first k numbers are copied.
 use mathlib.Core.Path.{refl}
 use Prim.Native.Nat.{_-_}
 use native.Mathlib.Omega.{arith}

@@ -1,10 +1,10 @@
--- `units::rows::fetch_row` meets its contract, by whether the row has a slot of its own. Assumes nothing.
+-- `units::rows::fetch_row` meets its contract, by whether the row has a slot of its own.
 use mathlib.Core.Path.{refl}
 use Prim.Native.Nat.{_+_}
 use native.Mathlib.Omega.{arith}
 use borrow.Author.Needs.{needs}
-use Rattle.edges.specs.Operations.{operationOf}
-use Rattle.edges.proofs.Borders.{border-high, border-low}
+use Rattle.operations.specs.Operations.{operationOf}
+use Rattle.operations.proofs.Borders.{border-high, border-low}
 use Rattle.units.proofs.Rings.{fetched-own, fetched-again}
 use Rattle.units.proofs.rows.fetch_row.Statement.{statement}
 use Rattle.units.proofs.rows.fetch_row.Tie as tie

@@ -1,7 +1,7 @@
--- `units::rows::first_row` meets its contract: there are at most as many saved rows as the border has. Assumes nothing.
+-- `units::rows::first_row` meets its contract: there are at most as many saved rows as the border has.
 use native.Mathlib.Omega.{arith}
 use borrow.Author.Needs.{needs}
-use Rattle.edges.specs.Operations.{operationOf}
+use Rattle.operations.specs.Operations.{operationOf}
 use Rattle.units.proofs.Edges.{top-high}
 use Rattle.units.proofs.rows.first_row.Statement.{statement}
 use Rattle.units.proofs.rows.first_row.Tie as tie

@@ -1,10 +1,10 @@
--- `units::rows::is_own` meets its contract: each part of the sum is what its function says, and small. Assumes nothing.
+-- `units::rows::is_own` meets its contract: each part of the sum is what its function says, and small.
 use Prim.Native.Nat.{_+_}
 use native.Mathlib.Omega.{arith}
 use lib.Dec.{ltb}
 use borrow.Author.Needs.{needs}
-use Rattle.edges.specs.Operations.{operationOf}
-use Rattle.edges.proofs.Borders.{border-high}
+use Rattle.operations.specs.Operations.{operationOf}
+use Rattle.operations.proofs.Borders.{border-high}
 use Rattle.units.proofs.Edges.{below-high}
 use Rattle.units.proofs.rows.is_own.Statement.{statement}
 use Rattle.units.proofs.rows.is_own.Tie as tie

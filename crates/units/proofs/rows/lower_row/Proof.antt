@@ -1,9 +1,9 @@
--- `units::rows::lower_row` meets its contract: for each of the four sources, `Sources` has that it lies inside and that it is the definition's row. Assumes nothing.
+-- `units::rows::lower_row` meets its contract: for each of the four sources, `Sources` has that it lies inside and that it is the definition's row.
 use mathlib.Core.Path.{_∙_}
 use Prim.Native.Nat.{_-_}
 use native.Mathlib.Omega.{arith}
 use borrow.Author.Needs.{needs}
-use Rattle.edges.specs.Operations.{operationOf}
+use Rattle.operations.specs.Operations.{operationOf}
 use Rattle.units.proofs.Edges.{bit-is, plane-row, bottom-row}
 use Rattle.units.proofs.Sources.{plane-inside, bottom-inside, own-fits, plane-fits, bottom-fits, own-is, plane-is, bottom-is, last-is}
 use Rattle.units.proofs.rows.lower_row.Statement.{statement}

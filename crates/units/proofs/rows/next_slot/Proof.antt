@@ -1,4 +1,4 @@
--- `units::rows::next_slot` meets its contract, by the test's two cases. Assumes nothing.
+-- `units::rows::next_slot` meets its contract, by the test's two cases.
 use Prim.Native.Nat.{_+_}
 use borrow.Author.Tests.{eq-eqb, ne-eqb}
 use borrow.Author.Needs.{needs}

@@ -1,4 +1,4 @@
--- `units::rows::open_indices` meets its contract, index by index. Assumes nothing.
+-- `units::rows::open_indices` meets its contract, index by index.
 use mathlib.Core.Path.{_∙_, ap}
 use mathlib.Core.List.{[], _∷_}
 use Prim.Native.Nat.{max}

@@ -1,4 +1,4 @@
--- `units::rows::open_rows` meets its contract. The loop's invariant: the rows before n are filled. Assumes nothing.
+-- `units::rows::open_rows` meets its contract. The loop's invariant: the rows before n are filled.
 use mathlib.Core.Path.{_≡_, sym, _∙_}
 use Prim.Native.Nat.{_+_, _*_, _-_, _≤_}
 use native.Mathlib.Omega.{arith}
@@ -7,10 +7,10 @@ use borrow.Author.Needs.{needs}
 use Rattle.definition.specs.Units.{border}
 use Rattle.model.specs.Rows.{first-low}
 use Rattle.model.specs.Opening.{filled}
-use Rattle.edges.specs.Operations.{operationOf}
+use Rattle.operations.specs.Operations.{operationOf}
 use Rattle.refusals.specs.Given.{givenOf}
 use Rattle.units.specs.Lent.{rowsLent}
-use Rattle.edges.proofs.Borders.{border-high}
+use Rattle.operations.proofs.Borders.{border-high}
 use Rattle.units.proofs.Rings.{filled-none, filled-more}
 use Rattle.units.proofs.rows.open_rows.Statement.{statement}
 use Rattle.units.proofs.rows.open_rows.Tie as tie

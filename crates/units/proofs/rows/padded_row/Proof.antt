@@ -1,11 +1,11 @@
--- `units::rows::padded_row` meets its contract: above the unit a saved row, of which `Sources` has that it lies inside and is the definition's; else what `lower_row` gives. Assumes nothing.
+-- `units::rows::padded_row` meets its contract: above the unit a saved row, of which `Sources` has that it lies inside and is the definition's; else what `lower_row` gives.
 use mathlib.Core.Path.{_≡_, _∙_, ap}
 use Prim.Native.Nat.{ℕ, _+_, _-_}
 use native.Mathlib.Omega.{arith}
 use borrow.Author.Needs.{needs}
 use Rattle.definition.specs.Units.{border}
 use Rattle.model.specs.Rows.{padRow}
-use Rattle.edges.specs.Operations.{operationOf}
+use Rattle.operations.specs.Operations.{operationOf}
 use Rattle.units.proofs.Sources.{top-inside, top-fits, top-is}
 use Rattle.units.proofs.rows.padded_row.Statement.{statement}
 use Rattle.units.proofs.rows.padded_row.Tie as tie

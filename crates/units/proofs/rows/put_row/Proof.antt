@@ -1,4 +1,4 @@
--- `units::rows::put_row` meets its contract. The loop's invariant: the first j bytes of the row are stored. Assumes nothing.
+-- `units::rows::put_row` meets its contract. The loop's invariant: the first j bytes of the row are stored.
 use mathlib.Core.Path.{_≡_, refl, _∙_, ap}
 use Prim.Native.Nat.{_*_, _-_, _≤_}
 use native.Mathlib.Omega.{arith}

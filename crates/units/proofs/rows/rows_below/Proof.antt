@@ -1,7 +1,7 @@
--- `units::rows::rows_below` meets its contract: the rows by the two bits, as `Edges` has them. Assumes nothing.
+-- `units::rows::rows_below` meets its contract: the rows by the two bits, as `Edges` has them.
 use mathlib.Core.Path.{_∙_}
 use borrow.Author.Needs.{needs}
-use Rattle.edges.specs.Operations.{operationOf}
+use Rattle.operations.specs.Operations.{operationOf}
 use Rattle.units.proofs.Edges.{below-integrated, below-saved, below-none}
 use Rattle.units.proofs.rows.rows_below.Statement.{statement}
 use Rattle.units.proofs.rows.rows_below.Tie as tie

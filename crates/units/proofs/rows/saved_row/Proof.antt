@@ -1,4 +1,4 @@
--- `units::rows::saved_row` meets its contract: the padding is not refused. Assumes nothing.
+-- `units::rows::saved_row` meets its contract: the padding is not refused.
 use mathlib.Core.Path.{_∙_}
 use borrow.Author.Needs.{needs}
 use Rattle.units.proofs.Sources.{served}

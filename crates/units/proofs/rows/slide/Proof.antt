@@ -1,4 +1,4 @@
--- `units::rows::slide` meets its contract. The loop's invariant: j indices are slid. Assumes nothing.
+-- `units::rows::slide` meets its contract. The loop's invariant: j indices are slid.
 use mathlib.Core.Path.{_≡_, refl}
 use Prim.Native.Nat.{_-_, _≤_}
 use native.Mathlib.Omega.{arith}
