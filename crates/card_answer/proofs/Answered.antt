@@ -11,7 +11,8 @@ use lib.Dec.{eqb, ltb}
 use lib.ListN.{length, getD, take, drop, replicate, length-append, List·getD-append, List·getD-eq-default}
 use lib.Seq.{sets-eq, getD-append-add}
 use Rattle.definition.specs.Blocks.{side, piecesOf}
-use Rattle.definition.specs.Refusals.{sized, widthLimit, heightLimit}
+use Rattle.definition.specs.Refusals.{sized}
+use Rattle.definition.specs.Limits.{widthLimit, heightLimit}
 use Rattle.definition.specs.Card.{Meaning, whole, refused, meaning, joined, spread, restoredPlane, filtered, headText, rowsText, statusName, filteredName, lineText, printed, cardAnswer}
 use Rattle.laws.proofs.Lists.{tab-cong}
 use Rattle.card_reader.proofs.Cards.{sized-le}

@@ -9,7 +9,8 @@ use borrow.Author.Tests.{not-false}
 use lib.Dec.{eqb}
 use lib.ListN.{length, length-append}
 use Rattle.definition.specs.Blocks.{side}
-use Rattle.definition.specs.Refusals.{sized, widthLimit, heightLimit}
+use Rattle.definition.specs.Refusals.{sized}
+use Rattle.definition.specs.Limits.{widthLimit, heightLimit}
 use Rattle.definition.specs.Card.{Reading, value, wrong, reading, several, inputAt, wordAt, newline, pairAt, filterAt, skipAt, rowAt, rowsAt, sizeAt, opLine, wName, hName, edgesLine, filterName, rowName, joined, CardUnit, Meaning, whole, refused, after, meaningOfLists, meaning}
 
 -- of a value that was read

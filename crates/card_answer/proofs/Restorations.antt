@@ -13,7 +13,8 @@ use lib.Seq.{ext-getD}
 use Rattle.definition.specs.Rows.{tab}
 use Rattle.definition.specs.Blocks.{side, piecesOf}
 use Rattle.definition.specs.Units.{luma, finalSample}
-use Rattle.definition.specs.Refusals.{sized, widthLimit, heightLimit, outside, unitStatus, unitChecks, sizesOf}
+use Rattle.definition.specs.Refusals.{sized, outside, unitStatus, unitChecks, sizesOf}
+use Rattle.definition.specs.Limits.{widthLimit, heightLimit}
 use Rattle.laws.proofs.Passes.{both}
 use Rattle.laws.proofs.Lists.{length-tab, getD-tab}
 use Rattle.laws.proofs.Checks.{cleared}

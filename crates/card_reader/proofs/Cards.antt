@@ -16,7 +16,8 @@ use lib.ListN.{length, set, take, drop, length-take, length-set, length-drop}
 use lib.Seq.{take-all, getD-take, take-suc-set, length-take-le}
 use Rattle.laws.proofs.Passes.{both}
 use Rattle.definition.specs.Blocks.{side}
-use Rattle.definition.specs.Refusals.{widthLimit, heightLimit, sized}
+use Rattle.definition.specs.Refusals.{sized}
+use Rattle.definition.specs.Limits.{widthLimit, heightLimit}
 use Rattle.definition.specs.Card.{inputAt, Reading, value, wrong, reading, several, word, wordAt, ended, endOf, newline, decimalOf, decimalAt, negated, unsigned, minus, tapAt, hexOf, pairAt, groupAt, opLine, wName, hName, edgesLine, filterName, skipName, rowName, sizeAt, filterAt, skipAt, rowAt, rowsAt, Meaning, whole, refused, after, meaningOfLists, meaning, statusOf}
 
 -- THE STATUSES

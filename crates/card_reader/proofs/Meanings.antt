@@ -10,7 +10,8 @@ use lib.ListN.{length, take, drop, replicate, take-append-drop}
 use lib.Seq.{length-take-le}
 use lib.IntN.{ℤ}
 use Rattle.definition.specs.Blocks.{side}
-use Rattle.definition.specs.Refusals.{widthLimit, heightLimit, sized}
+use Rattle.definition.specs.Refusals.{sized}
+use Rattle.definition.specs.Limits.{widthLimit, heightLimit}
 use Rattle.definition.specs.Card.{Reading, value, wrong, word, wordAt, sizeAt, filterAt, skipAt, rowsAt, opLine, wName, hName, edgesLine, joined, whole, refused, meaningOfLists, meaning}
 use Rattle.card_reader.specs.declared.Line.{Line}
 use Rattle.card_reader.specs.declared.Line.the-variants.{Next, Wrong}

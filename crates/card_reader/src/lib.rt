@@ -5,7 +5,7 @@ ghost use Prim.Native.Nat.{_+_, _*_, _≤_, _<_};
 ghost use lib.ListN.{length, take, drop};
 ghost use Rattle.definition.specs.Card.{inputAt, digitOf, hexOf, decimalAt, decimalOf, tapAt, pairAt, groupAt, wordAt, sizeAt, filterAt, skipAt, rowAt, rowsAt, several, endOf, meaning, meaningOfLists};
 ghost use Rattle.definition.specs.Card.{negated as Card·negated, unsigned as Card·unsigned, word as Card·word};
-ghost use Rattle.definition.specs.Refusals.{widthLimit};
+ghost use Rattle.definition.specs.Limits.{widthLimit};
 ghost use Rattle.definition.specs.Refusals.{sized as Refusals·sized};
 ghost use Rattle.card_reader.specs.Answers.{numberOf, Below, tapOf, lineOf, joins, cardOf, refusedCard};
 

@@ -10,7 +10,8 @@ use Prim.Native.String.{String, [] as empty, _∷_ as _then_}
 use Rattle.definition.specs.Rows.{tab}
 use Rattle.definition.specs.Blocks.{side, piecesOf}
 use Rattle.definition.specs.Units.{luma, Given, Lent, finalSample}
-use Rattle.definition.specs.Refusals.{widthLimit, heightLimit, sized}
+use Rattle.definition.specs.Refusals.{sized}
+use Rattle.definition.specs.Limits.{widthLimit, heightLimit}
 
 -- THE INPUT
 -- the byte at a place; past the end stands 256, which is no byte

@@ -5,6 +5,7 @@ pub mod ClassIndex
 pub mod Sample
 pub mod Padding
 pub mod Blocks
+pub mod Limits
 pub mod Units
 pub mod Refusals
 pub mod Card

@@ -6,6 +6,7 @@ use lib.Dec.{ltb, leb, eqb}
 use lib.ListN.{length, getD}
 use Rattle.definition.specs.Padding.{hasLeft, hasRight, hasTop, hasBottom, topIntegrated, bottomIntegrated}
 use Rattle.definition.specs.Blocks.{side}
+use Rattle.definition.specs.Limits.{widthLimit, heightLimit, blockRowLimit, strideLimit, mapSize}
 use Rattle.definition.specs.ClassIndex.{lastColumn}
 use Rattle.definition.specs.Units.{Operation, luma, user, pretrained, chroma, border, setSize, Given, Lent}
 
@@ -18,19 +19,6 @@ pub data Check : Type 0 where
 abbrev pub lowest : List Check → ℕ
 lowest [] = 0
 lowest ((b ⇒ n) ∷ cs) = cond b n (lowest cs)
-
--- the limits
-abbrev pub widthLimit : ℕ
-widthLimit = 64
-
-abbrev pub heightLimit : ℕ
-heightLimit = 64
-
-abbrev pub strideLimit : ℕ
-strideLimit = 65536
-
-abbrev pub mapSize : ℕ
-mapSize = 4096
 
 -- a multiple of 4 in 4 .. limit
 abbrev pub sized : ℕ → ℕ → Bool
@@ -243,9 +231,6 @@ badKept user classes numbers = not (firstPass (λ c. ltb c (numbers / setSize us
 badKept pretrained classes numbers = not (firstPass (λ c. ltb c (numbers / setSize pretrained)) 16 classes)
 
 -- THE CLASS INDEX: 12 precedes all; then 5 for rows under 760 bytes or a row index over 9, and 9 for noskip under one for each block row
-abbrev pub blockRowLimit : ℕ
-blockRowLimit = 16
-
 abbrev pub rowsSize : ℕ
 rowsSize = 760
 

@@ -5,7 +5,8 @@ use Prim.Native.Nat.{ℕ, _/_}
 use lib.Dec.{eqb, ltb}
 use lib.ListN.{length}
 use Rattle.definition.specs.Units.{Operation, setSize, Given}
-use Rattle.definition.specs.Refusals.{Sizes, mapSize, every}
+use Rattle.definition.specs.Refusals.{Sizes, every}
+use Rattle.definition.specs.Limits.{mapSize}
 use Rattle.refusals.specs.declared.Numbers.{Numbers}
 use Rattle.refusals.specs.declared.Sizes as Lengths
 

@@ -5,7 +5,8 @@ use mathlib.Core.List.{List, [], _∷_}
 use Prim.Native.Nat.{ℕ, zero, suc, _≤_, max}
 use lib.ListN.{getD}
 use Rattle.definition.specs.Units.{Operation, luma, user, pretrained, chroma, Given}
-use Rattle.definition.specs.Refusals.{Check, _⇒_, Sizes, sized, widthLimit, heightLimit, strideLimit, badStride, badPair, badPlane, badLeft, badTop, badBottom, badMasks, badFilters, badLuma}
+use Rattle.definition.specs.Refusals.{Check, _⇒_, Sizes, sized, badStride, badPair, badPlane, badLeft, badTop, badBottom, badMasks, badFilters, badLuma}
+use Rattle.definition.specs.Limits.{widthLimit, heightLimit, strideLimit}
 
 -- which operation is chroma, and which have classes
 abbrev pub chromatic : Operation → Bool

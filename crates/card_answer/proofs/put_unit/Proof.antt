@@ -3,7 +3,7 @@ use native.Mathlib.Omega.{arith}
 use Prim.Native.Nat.{_*_}
 use lib.ListN.{take, drop}
 use lib.Seq.{length-take-le}
-use Rattle.definition.specs.Refusals.{widthLimit, heightLimit}
+use Rattle.definition.specs.Limits.{widthLimit, heightLimit}
 use Rattle.card_reader.proofs.Cards.{sized-le}
 use Rattle.card_reader.proofs.Places.{front}
 use Rattle.card_answer.specs.Answers.{planeOf, unitText}

@@ -2,7 +2,7 @@ use borrow.Author.Tests.{not-true, not-false}
 use mathlib.Core.Path.{sym, _∙_, ap}
 use native.Mathlib.Omega.{arith}
 use Rattle.card_reader.proofs.Cards.{word-ends, size-ends, sized-le}
-use Rattle.definition.specs.Refusals.{widthLimit, heightLimit}
+use Rattle.definition.specs.Limits.{widthLimit, heightLimit}
 use Rattle.definition.specs.Card.{refused, word, opLine, wName, hName, edgesLine}
 use Rattle.card_reader.specs.Answers.{cardOf}
 use Rattle.card_reader.proofs.Places.{found, missed, line-found, line-missed}

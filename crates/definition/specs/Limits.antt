@@ -1,0 +1,24 @@
+-- The limits, as the code's constants have them. Nothing above the definition says these numbers again.
+use Prim.Native.Nat.{ℕ, _/_}
+use Rattle.definition.specs.Blocks.{side}
+
+-- the sides of a unit, in samples and in blocks
+abbrev pub widthLimit : ℕ
+widthLimit = 64
+
+abbrev pub heightLimit : ℕ
+heightLimit = 64
+
+abbrev pub blockColumnLimit : ℕ
+blockColumnLimit = widthLimit / side
+
+abbrev pub blockRowLimit : ℕ
+blockRowLimit = heightLimit / side
+
+-- the distance of two rows of a plane
+abbrev pub strideLimit : ℕ
+strideLimit = 65536
+
+-- the entries of a class map
+abbrev pub mapSize : ℕ
+mapSize = 4096
