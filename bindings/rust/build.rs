@@ -1,14 +1,14 @@
-//! Links libexports.a, the static library of the core: from the folder GIHVENDU_LIB where that is set, else as
-//! `rt staticlib exports` makes it of this repository.
+//! Links libgihvendu.a, the static library of the core: from the folder GIHVENDU_LIB where that is set, else as
+//! `rt staticlib gihvendu` makes it of this repository.
 
 use std::path::{Path, PathBuf};
 use std::process::{Command, exit};
 use std::{env, fs};
 
-const ARCHIVE: &str = "libexports.a";
+const ARCHIVE: &str = "libgihvendu.a";
 
-const WANTED: &str = "gihvendu links libexports.a. Either the Rattle kit's `rt` is on PATH, and this package stands in its \
-                      repository (then `rt staticlib exports` makes it), or GIHVENDU_LIB is the absolute path of a folder that has it.";
+const WANTED: &str = "gihvendu links libgihvendu.a. Either the Rattle kit's `rt` is on PATH, and this package stands in its \
+                      repository (then `rt staticlib gihvendu` makes it), or GIHVENDU_LIB is the absolute path of a folder that has it.";
 
 fn stop(reason: &str) -> ! {
     eprintln!("\n{reason}\n{WANTED}\n");
@@ -40,13 +40,13 @@ fn made() -> PathBuf {
         println!("cargo::rerun-if-changed={}", root.join(source).display());
     }
     let run = Command::new("rt")
-        .args(["staticlib", "exports"])
+        .args(["staticlib", "gihvendu"])
         .current_dir(&root)
         .output();
     match run {
         Err(error) => stop(&format!("`rt` cannot be run: {error}.")),
         Ok(run) if !run.status.success() => stop(&format!(
-            "`rt staticlib exports` failed in {}:\n{}{}",
+            "`rt staticlib gihvendu` failed in {}:\n{}{}",
             root.display(),
             String::from_utf8_lossy(&run.stdout),
             String::from_utf8_lossy(&run.stderr)
@@ -67,5 +67,5 @@ fn main() {
         stop(&format!("There is no {}.", archive.display()));
     }
     println!("cargo::rustc-link-search=native={}", folder.display());
-    println!("cargo::rustc-link-lib=static=exports");
+    println!("cargo::rustc-link-lib=static=gihvendu");
 }

@@ -1,7 +1,7 @@
 //! Random units restored in random lists of advances, with refused calls and overwritten rows in between, against the
 //! Rust's one call.
 
-use gihvendu::{State, exports};
+use gihvendu::{State, raw};
 
 use crate::calls::{self, advance};
 use crate::disturb;
@@ -84,7 +84,7 @@ impl<'a> History<'a> {
             for _ in 0..1 + r.below(2) {
                 disturb::unit(r, &mut lent);
             }
-            let status = table::advance_status(&exports::State::from(before.clone()), &lent);
+            let status = table::advance_status(&raw::State::from(before.clone()), &lent);
             if status != 0 {
                 break (lent, status);
             }

@@ -3,7 +3,7 @@
 use std::hint::black_box;
 use std::time::Instant;
 
-use gihvendu::exports;
+use gihvendu::raw;
 
 use crate::exec_context::ExecContext;
 use crate::looprestoration::{backup_row_8bpc, backup_row_luma_8bpc};
@@ -182,13 +182,13 @@ fn filter_runs(sort: Sort) {
         ten_rows!(
             "ns_wiener_fir_run",
             runs::ns_run,
-            exports::gihvendu_ns_wiener_fir_run,
+            raw::gihvendu_ns_wiener_fir_run,
             ns
         );
         ten_rows!(
             "pc_wiener_fir_run",
             runs::pc_run,
-            exports::gihvendu_pc_wiener_fir_run,
+            raw::gihvendu_pc_wiener_fir_run,
             pc
         );
 
@@ -208,7 +208,7 @@ fn filter_runs(sort: Sort) {
                 0
             };
             let port = |c: &Case, d: &mut [u8]| {
-                let status = exports::gihvendu_ns_wiener_uv_fir_run(
+                let status = raw::gihvendu_ns_wiener_uv_fir_run(
                     &mut d[..n],
                     &c.chroma_rows,
                     &c.chroma_indices,
@@ -245,7 +245,7 @@ fn paddings() {
             0
         };
         let port = |c: &Case, d: &mut [u8]| {
-            let status = exports::gihvendu_backup_row_8bpc(
+            let status = raw::gihvendu_backup_row_8bpc(
                 d,
                 ORIGIN,
                 &c.rows,
@@ -273,7 +273,7 @@ fn paddings() {
             0
         };
         let port = |c: &Case, d: &mut [u8]| {
-            let status = exports::gihvendu_backup_row_luma_8bpc(
+            let status = raw::gihvendu_backup_row_luma_8bpc(
                 d,
                 ORIGIN,
                 &c.rows,
@@ -299,7 +299,7 @@ fn class_index() {
         runs::class_index(&c.rows, &c.indices, &c.noskip, c.q, c.indices[1], 3, 16)
     };
     let port = |c: &Case, _: &mut [u8]| {
-        let answer = exports::gihvendu_get_class_lut_idx_8bpc(
+        let answer = raw::gihvendu_get_class_lut_idx_8bpc(
             &c.rows,
             &c.indices,
             &c.noskip,

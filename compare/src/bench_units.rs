@@ -42,7 +42,7 @@ fn measure_units(
 fn bench_units(size: usize) -> Vec<(String, Vec<Unit>)> {
     const EDGES: u8 = 15;
     let count = if size == 64 { 8 } else { 64 };
-    let kinds = OPERATIONS[..3]
+    let series = OPERATIONS[..3]
         .iter()
         .map(|&op| (op.name().to_string(), op, (0, 0, 0)))
         .chain(
@@ -55,7 +55,7 @@ fn bench_units(size: usize) -> Vec<(String, Vec<Unit>)> {
             ]
             .map(|(name, subsampling)| (name.to_string(), Operation::Chroma, subsampling)),
         );
-    kinds
+    series
         .map(|(name, op, subsampling)| {
             let mut r = Random::new(11);
             let spacing = Spacing {

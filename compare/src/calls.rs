@@ -1,6 +1,6 @@
 //! Units handed to the port, through the package that programs in Rust call it by.
 
-use gihvendu::exports::{self, Numbers, Opened};
+use gihvendu::raw::{self, Given, Opened};
 use gihvendu::{Borders, Classes, Luma, LumaUnit, Pieces, Refusal, State};
 
 use crate::units::{Operation, Unit};
@@ -59,7 +59,7 @@ pub(crate) fn advance(unit: &Unit, state: &mut State, count: usize, plane: &[u8]
 /// What an opening hands out; the state is of zeros where it is refused.
 pub(crate) struct Begun {
     pub answer: Result<State, u8>,
-    pub state: exports::State,
+    pub state: raw::State,
     /// whether the plane and all other lists are as before
     pub kept: bool,
 }
@@ -81,8 +81,8 @@ pub(crate) fn open(unit: &Unit) -> Begun {
 }
 
 /// The numbers that an opening keeps; what the operation does not use is 0.
-pub(crate) fn numbers(u: &Unit) -> Numbers {
-    let own = Numbers {
+pub(crate) fn given(u: &Unit) -> Given {
+    let own = Given {
         w: u.w,
         h: u.h,
         edges: u.edges,
@@ -90,12 +90,12 @@ pub(crate) fn numbers(u: &Unit) -> Numbers {
         off: u.off,
         top_off: u.top_off,
         bottom_off: u.bottom_off,
-        ..Numbers::default()
+        ..Given::default()
     };
     if u.op != Operation::Chroma {
         return own;
     }
-    Numbers {
+    Given {
         luma_stride: u.luma_stride,
         luma_off: u.luma_off,
         luma_top_off: u.luma_top_off,
@@ -227,7 +227,7 @@ impl<'a> ForPort<'a> {
         let u = self.unit;
         macro_rules! opened {
             ($open:ident, $filters:expr $(, $more:expr)*) => {
-                exports::$open(
+                raw::$open(
                     plane, u.off, u.stride, &u.left, &u.top, u.top_off, &u.bottom, u.bottom_off, u.w, u.h, $filters, $($more,)*
                     u.edges, &u.skip,
                 )

@@ -3,7 +3,7 @@
 use std::fmt;
 use std::panic::{AssertUnwindSafe, catch_unwind};
 
-use gihvendu::{exports, get_class_lut_idx_8bpc};
+use gihvendu::{get_class_lut_idx_8bpc, raw};
 
 use crate::calls;
 use crate::exec_context::ExecContext;
@@ -217,7 +217,7 @@ fn leaves(exec: &ExecContext) -> Vec<(&'static str, [Outcome; 2], [Outcome; 2])>
     };
     let run = |col0: usize, indices: &[usize; 10]| {
         let (c, mut dst) = ([0; 13], [0]);
-        let port = exports::gihvendu_pc_wiener_fir_run(&mut dst, &rows, indices, col0, &c, 1);
+        let port = raw::gihvendu_pc_wiener_fir_run(&mut dst, &rows, indices, col0, &c, 1);
         [
             by_rust(|| runs::pc_run(exec, &mut dst, &rows, indices, col0, &c, 1)),
             status(port),
@@ -225,7 +225,7 @@ fn leaves(exec: &ExecContext) -> Vec<(&'static str, [Outcome; 2], [Outcome; 2])>
     };
     let no_samples = {
         let mut dst = [0; 8];
-        let port = exports::gihvendu_backup_row_8bpc(&mut dst, 4, &[9], 0, &[], 0, 0, 4, 0);
+        let port = raw::gihvendu_backup_row_8bpc(&mut dst, 4, &[9], 0, &[], 0, 0, 4, 0);
         [
             by_rust(|| backup_row_8bpc(&mut dst, 4, &[9], 0, &[], 0, 0, 4, 0)),
             status(port),
@@ -236,25 +236,12 @@ fn leaves(exec: &ExecContext) -> Vec<(&'static str, [Outcome; 2], [Outcome; 2])>
         let src: Vec<u8> = (0..22).map(|i| 10 * (i % 11)).collect();
         let (mut rust, mut port) = ([255; 10], [255; 10]);
         backup_row_luma_8bpc(&mut rust, 4, &src, 4, 11, 2, 3, 1, 1, 0);
-        exports::gihvendu_backup_row_luma_8bpc(
-            &mut port,
-            4,
-            &src,
-            &[],
-            false,
-            4,
-            11,
-            2,
-            3,
-            1,
-            1,
-            0,
-        );
+        raw::gihvendu_backup_row_luma_8bpc(&mut port, 4, &src, &[], false, 4, 11, 2, 3, 1, 1, 0);
         [Leaves(rust.to_vec()), Leaves(port.to_vec())]
     };
     let columns = [5, 15, 25, 35, 45, 255, 65, 75, 85, 95].to_vec();
     let even = [5, 255, 25, 255, 45, 255, 65, 255, 85, 255].to_vec();
-    let term = exports::gihvendu_get_qval_given_tskip(0, 0, 4).status;
+    let term = raw::gihvendu_get_qval_given_tskip(0, 0, 4).status;
     let fourth = [by_rust(|| get_qval_given_tskip(0, 0, 4, 0)), status(term)];
     vec![
         (

@@ -1,6 +1,6 @@
 //! Units and states moved to the limits of the table of refusals and past them.
 
-use gihvendu::exports::State;
+use gihvendu::raw::State;
 
 use crate::random::Random;
 use crate::units::Unit;
@@ -172,7 +172,7 @@ pub(crate) fn state(r: &mut Random, s: &mut State) {
         1 => r.next() as usize,
         _ => limits[r.below(limits.len())],
     };
-    let h = s.numbers.h;
+    let h = s.given.h;
     match r.below(8) {
         0 => s.op = near(r, &[0, 1, 2, 3, 4, 5]),
         1 => s.done = near(r, &[0, 1, h, h.wrapping_add(1), h.wrapping_sub(1)]),
@@ -180,7 +180,7 @@ pub(crate) fn state(r: &mut Random, s: &mut State) {
         3 => s.indices[r.below(10)] = near(r, &[0, 4, 5, 9, 10]),
         4 => s.classes[r.below(16)] = near(r, &[0, 1, 2, 3, 4, 5, 6]) as u8,
         5 => s.rows[r.below(1080)] ^= 1 + r.below(255) as u8,
-        6 => s.numbers.edges ^= (r.next() as usize) << 6,
-        _ => s.numbers.kind = near(r, &[0, 1, 2, 3]),
+        6 => s.given.edges ^= (r.next() as usize) << 6,
+        _ => s.given.kind = near(r, &[0, 1, 2, 3]),
     }
 }

@@ -2,7 +2,7 @@
 
 use std::panic::{AssertUnwindSafe, catch_unwind};
 
-use gihvendu::exports;
+use gihvendu::raw;
 
 use crate::exec_context::ExecContext;
 use crate::looprestoration::{
@@ -178,7 +178,7 @@ fn ns_run(t: &mut Tally, exec: &ExecContext, r: &mut Random) {
     let rust = |d: &mut [u8], rows: &[u8], indices: &[usize; 10], col0, c: &[i8; 16], n| {
         runs::ns_run(exec, d, rows, indices, col0, c, n)
     };
-    ten_rows(t, r, c, rust, exports::gihvendu_ns_wiener_fir_run);
+    ten_rows(t, r, c, rust, raw::gihvendu_ns_wiener_fir_run);
 }
 
 fn pc_run(t: &mut Tally, exec: &ExecContext, r: &mut Random) {
@@ -190,7 +190,7 @@ fn pc_run(t: &mut Tally, exec: &ExecContext, r: &mut Random) {
     let rust = |d: &mut [u8], rows: &[u8], indices: &[usize; 10], col0, c: &[i16; 13], n| {
         runs::pc_run(exec, d, rows, indices, col0, c, n)
     };
-    ten_rows(t, r, c, rust, exports::gihvendu_pc_wiener_fir_run);
+    ten_rows(t, r, c, rust, raw::gihvendu_pc_wiener_fir_run);
 }
 
 fn uv_run(t: &mut Tally, exec: &ExecContext, r: &mut Random) {
@@ -217,16 +217,8 @@ fn uv_run(t: &mut Tally, exec: &ExecContext, r: &mut Random) {
         runs::uv_run(exec, d, &rows, &indices, col0, lcol0, step, &c, n)
     });
     let lent = (rows.clone(), indices, c);
-    let status = exports::gihvendu_ns_wiener_uv_fir_run(
-        dst.list(),
-        &rows,
-        &indices,
-        col0,
-        lcol0,
-        step,
-        &c,
-        n,
-    );
+    let status =
+        raw::gihvendu_ns_wiener_uv_fir_run(dst.list(), &rows, &indices, col0, lcol0, step, &c, n);
     t.judge(status, expected, inside, &dst, lent == (rows, indices, c));
 }
 
@@ -261,7 +253,7 @@ fn own_row(t: &mut Tally, r: &mut Random) {
     });
     let lent = (src.clone(), left.clone());
     let status =
-        exports::gihvendu_backup_row_8bpc(dst.list(), o, &src, src_o, &left, left_off, w, e, edges);
+        raw::gihvendu_backup_row_8bpc(dst.list(), o, &src, src_o, &left, left_off, w, e, edges);
     t.judge(status, expected, inside, &dst, lent == (src, left));
 }
 
@@ -281,7 +273,7 @@ fn saved_row(t: &mut Tally, r: &mut Random) {
         backup_row_lpf_8bpc(d, o, &src, src_o, w, e, edges as u8)
     });
     let lent = src.clone();
-    let status = exports::gihvendu_backup_row_lpf_8bpc(dst.list(), o, &src, src_o, w, e, edges);
+    let status = raw::gihvendu_backup_row_lpf_8bpc(dst.list(), o, &src, src_o, w, e, edges);
     t.judge(status, expected, inside, &dst, lent == src);
 }
 
@@ -344,7 +336,7 @@ fn luma_row(t: &mut Tally, r: &mut Random) {
         }
     }
     let lent = (plane.clone(), saved.clone());
-    let status = exports::gihvendu_backup_row_luma_8bpc(
+    let status = raw::gihvendu_backup_row_luma_8bpc(
         dst.list(),
         o,
         &plane,
@@ -387,7 +379,7 @@ fn class_index(t: &mut Tally, r: &mut Random) {
         DONE
     };
     let lent = (rows.clone(), indices, noskip.clone());
-    let got = exports::gihvendu_get_class_lut_idx_8bpc(&rows, &indices, &noskip, q, bx, by, bh);
+    let got = raw::gihvendu_get_class_lut_idx_8bpc(&rows, &indices, &noskip, q, bx, by, bh);
     let good = got.status == status
         && (status != DONE
             || got.index == runs::class_index(&rows, &indices, &noskip, q, bx, by, bh));
@@ -412,7 +404,7 @@ fn quantizer_term(t: &mut Tally, r: &mut Random) {
     } else {
         r.below(4)
     };
-    let got = exports::gihvendu_get_qval_given_tskip(q, skip, i);
+    let got = raw::gihvendu_get_qval_given_tskip(q, skip, i);
     let status = if i > 3 { OUTSIDE } else { DONE };
     let good = got.status == status
         && (status != DONE || got.value == get_qval_given_tskip(q, i32::from(skip), i, 0));

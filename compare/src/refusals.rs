@@ -3,7 +3,7 @@
 
 use std::panic::{AssertUnwindSafe, catch_unwind};
 
-use gihvendu::{State, exports, get_class_lut_idx_8bpc};
+use gihvendu::{State, get_class_lut_idx_8bpc, raw};
 
 use crate::calls;
 use crate::disturb::{self, KNOBS, Knob};
@@ -44,7 +44,7 @@ struct Run {
 impl Run {
     /// A whole unit: restored as the Rust does it, or refused.
     fn whole(&mut self, t: &mut Tally, u: &Unit) {
-        let status = table::unit_status(&calls::numbers(u), u);
+        let status = table::unit_status(&calls::given(u), u);
         let first = t.differ == 0;
         let good = if status == 0 {
             let run = || same_as_rust(&self.exec, u, first);
@@ -57,26 +57,26 @@ impl Run {
 
     /// An opening: a state of the unit's numbers, or of zeros.
     fn open(&mut self, t: &mut Tally, u: &Unit) {
-        let numbers = calls::numbers(u);
-        let status = table::unit_status(&numbers, u);
+        let given = calls::given(u);
+        let status = table::unit_status(&given, u);
         let begun = calls::open(u);
         let good = match begun.answer {
-            Ok(_) => status == 0 && begun.state.numbers == numbers && begun.state.done == 0,
-            Err(number) => status == number && begun.state == exports::State::default(),
+            Ok(_) => status == 0 && begun.state.given == given && begun.state.done == 0,
+            Err(number) => status == number && begun.state == raw::State::default(),
         };
         t.add(status, good && begun.kept);
     }
 
     /// An advance of a state that may be forged: it goes on, or hands the state back as it came.
-    fn advance(&mut self, t: &mut Tally, u: &Unit, state: exports::State) {
+    fn advance(&mut self, t: &mut Tally, u: &Unit, state: raw::State) {
         let status = table::advance_status(&state, u);
         let count = [0, 1, 2, 5, 64, usize::MAX][self.r.below(6)];
         let mut after = State::from(state.clone());
         let ran = calls::advance(u, &mut after, count, &u.plane);
-        let after = exports::State::from(after);
+        let after = raw::State::from(after);
         let good = if status == 0 {
-            let n = state.numbers;
-            let rows = state.done..state.done.saturating_add(count).min(n.h);
+            let g = state.given;
+            let rows = state.done..state.done.saturating_add(count).min(g.h);
             let mut expected = state.clone();
             expected.done = rows.end;
             (expected.next, expected.classes) = (after.next, after.classes);
@@ -84,12 +84,12 @@ impl Run {
             ran.kept
                 && ran.answer
                     == Ok(Unit {
-                        w: n.w,
+                        w: g.w,
                         ..u.clone()
                     }
                     .pieces(rows.clone()))
                 && expected == after
-                && outside_kept(&n, rows, &u.plane, &ran.plane)
+                && outside_kept(&g, rows, &u.plane, &ran.plane)
         } else {
             after == state && judge(u, ran, (Err(status), &u.plane), t.differ == 0)
         };
@@ -130,15 +130,10 @@ impl Run {
 }
 
 /// Whether all bytes but the samples of these rows are as before.
-fn outside_kept(
-    n: &exports::Numbers,
-    rows: std::ops::Range<usize>,
-    before: &[u8],
-    after: &[u8],
-) -> bool {
+fn outside_kept(g: &raw::Given, rows: std::ops::Range<usize>, before: &[u8], after: &[u8]) -> bool {
     let mut expected = before.to_vec();
     for y in rows {
-        let row = n.off + y * n.stride..n.off + y * n.stride + n.w;
+        let row = g.off + y * g.stride..g.off + y * g.stride + g.w;
         expected[row.clone()].copy_from_slice(&after[row]);
     }
     expected == after
@@ -158,7 +153,7 @@ fn draw(r: &mut Random, op: Operation, far: bool) -> Unit {
 }
 
 /// A state with one number at its limit, and one past it.
-fn state_limit(u: &Unit, opened: &exports::State, k: usize) -> (exports::State, exports::State) {
+fn state_limit(u: &Unit, opened: &raw::State, k: usize) -> (raw::State, raw::State) {
     let (mut at, mut past) = (opened.clone(), opened.clone());
     let rows = if u.op == Operation::Chroma { 5 } else { 10 };
     match k % 4 {
@@ -184,7 +179,7 @@ fn limit(u: &Unit, knob: Knob, by: isize) -> Option<(Unit, Unit)> {
         if !knob.turn(&mut past, by) {
             return None;
         }
-        if table::unit_status(&calls::numbers(&past), &past) != 0 {
+        if table::unit_status(&calls::given(&past), &past) != 0 {
             return Some((at, past));
         }
         at = past;
@@ -228,7 +223,7 @@ pub(crate) fn compare(seed: u64, count: usize) -> bool {
             run.whole(&mut whole, &disturbed);
             run.open(&mut open, &disturbed);
             let mut state = opened;
-            state.numbers = calls::numbers(&disturbed);
+            state.given = calls::given(&disturbed);
             for _ in 0..run.r.below(3) {
                 disturb::state(&mut run.r, &mut state);
             }

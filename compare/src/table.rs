@@ -1,7 +1,7 @@
 //! A second reading of document 01's table of refusals: every row that the padding rules name is looked up in its list,
 //! over integers that do not wrap.
 
-use gihvendu::exports::{self, Numbers};
+use gihvendu::raw::{self, Given};
 
 use crate::units::{Operation, Unit};
 
@@ -39,25 +39,25 @@ impl Reading {
     }
 }
 
-fn has(n: &Numbers, bit: usize) -> bool {
-    n.edges & bit != 0
+fn has(g: &Given, bit: usize) -> bool {
+    g.edges & bit != 0
 }
 
 /// "Luma r < 0 .. Chroma .. Luma r >= h": where row r of the unit's own plane comes from.
-fn own_row(op: Operation, n: &Numbers, r: i128) -> Row {
-    let h = n.h as i128;
+fn own_row(op: Operation, g: &Given, r: i128) -> Row {
+    let h = g.h as i128;
     if r < 0 {
         let chroma = op == Operation::Chroma;
-        return match (has(n, TOP_INTEGRATED), has(n, TOP)) {
+        return match (has(g, TOP_INTEGRATED), has(g, TOP)) {
             (true, _) if !chroma => (List::Top, r + 4),
             (_, true) if !chroma => (List::Top, (r + 2).max(0)),
             (false, false) => (List::Plane, 0),
             _ => (List::Top, r + 2),
         };
     }
-    if r < h || has(n, BOTTOM_INTEGRATED) {
+    if r < h || has(g, BOTTOM_INTEGRATED) {
         (List::Plane, r)
-    } else if has(n, BOTTOM) {
+    } else if has(g, BOTTOM) {
         (List::Bottom, (r - h).min(1))
     } else {
         (List::Plane, h - 1)
@@ -65,11 +65,11 @@ fn own_row(op: Operation, n: &Numbers, r: i128) -> Row {
 }
 
 /// The luma rows that row r of a chroma unit is made of.
-fn luma_rows(n: &Numbers, r: i128) -> Vec<Row> {
-    let h = n.h as i128;
+fn luma_rows(g: &Given, r: i128) -> Vec<Row> {
+    let h = g.h as i128;
     // the second of two rows is read by the means of kinds 0 and 1
     let two = |list: List, upper: i128| {
-        let both = n.ss_ver == 1 && n.kind != 2;
+        let both = g.ss_ver == 1 && g.kind != 2;
         let rows = if both {
             upper..upper + 2
         } else {
@@ -77,17 +77,17 @@ fn luma_rows(n: &Numbers, r: i128) -> Vec<Row> {
         };
         rows.map(|row| (list, row)).collect()
     };
-    let own = |r: i128| two(List::Plane, r << n.ss_ver);
-    if r < 0 && !has(n, TOP_INTEGRATED) {
-        return match (has(n, TOP), r, n.ss_ver) {
+    let own = |r: i128| two(List::Plane, r << g.ss_ver);
+    if r < 0 && !has(g, TOP_INTEGRATED) {
+        return match (has(g, TOP), r, g.ss_ver) {
             (false, _, _) => own(0),
             (true, -2, _) => vec![(List::Top, 0)],
             (true, _, 0) => vec![(List::Top, 1)],
             (true, _, _) => two(List::Top, 0),
         };
     }
-    if r >= h && !has(n, BOTTOM_INTEGRATED) {
-        return match (has(n, BOTTOM), r - h) {
+    if r >= h && !has(g, BOTTOM_INTEGRATED) {
+        return match (has(g, BOTTOM), r - h) {
             (false, _) => own(h - 1),
             (true, 0) => two(List::Bottom, 0),
             (true, _) => vec![(List::Bottom, 1)],
@@ -98,34 +98,34 @@ fn luma_rows(n: &Numbers, r: i128) -> Vec<Row> {
 
 /// 5, 7 and 8: whether a sample of this list of the own plane lies outside that is padded from (or written: those of rows
 /// 0 to h - 1 are padded from too).
-fn own_outside(op: Operation, n: &Numbers, list: List, off: usize, len: usize) -> bool {
+fn own_outside(op: Operation, g: &Given, list: List, off: usize, len: usize) -> bool {
     let e = op.border() as i128;
-    (-e..n.h as i128 + e).any(|r| {
-        let (from, row) = own_row(op, n, r);
+    (-e..g.h as i128 + e).any(|r| {
+        let (from, row) = own_row(op, g, r);
         // rows 0 to h - 1 and their repeats take the left list
-        let by_list = from == List::Plane && row < n.h as i128;
+        let by_list = from == List::Plane && row < g.h as i128;
         let reading = Reading {
             off,
-            stride: n.stride,
+            stride: g.stride,
             len,
-            first: if has(n, LEFT) && !by_list { -e } else { 0 },
-            last: n.w as i128 - 1 + if has(n, RIGHT) { e } else { 0 },
+            first: if has(g, LEFT) && !by_list { -e } else { 0 },
+            last: g.w as i128 - 1 + if has(g, RIGHT) { e } else { 0 },
         };
         from == list && !reading.inside(row)
     })
 }
 
 /// 11: the same of the luma plane and of its saved borders.
-fn luma_outside(n: &Numbers, list: List, off: usize, len: usize) -> bool {
+fn luma_outside(g: &Given, list: List, off: usize, len: usize) -> bool {
     let reading = Reading {
         off,
-        stride: n.luma_stride,
+        stride: g.luma_stride,
         len,
-        first: if has(n, LEFT) { -4 } else { 0 },
-        last: ((n.w as i128) << n.ss_hor) - 1 + if has(n, RIGHT) { 4 } else { 0 },
+        first: if has(g, LEFT) { -4 } else { 0 },
+        last: ((g.w as i128) << g.ss_hor) - 1 + if has(g, RIGHT) { 4 } else { 0 },
     };
-    (-2..n.h as i128 + 2)
-        .flat_map(|r| luma_rows(n, r))
+    (-2..g.h as i128 + 2)
+        .flat_map(|r| luma_rows(g, r))
         .any(|(from, row)| from == list && !reading.inside(row))
 }
 
@@ -149,36 +149,36 @@ fn filters_wrong(u: &Unit) -> bool {
 }
 
 /// The status of a unit with these numbers that is lent what `u` lends: what an opening and a whole unit answer.
-pub(crate) fn unit_status(n: &Numbers, u: &Unit) -> u8 {
+pub(crate) fn unit_status(g: &Given, u: &Unit) -> u8 {
     let chroma = u.op == Operation::Chroma;
     let size = |v: usize| (4..=64).contains(&v) && v.is_multiple_of(4);
-    let right = if has(n, RIGHT) { u.op.border() } else { 0 };
-    let luma = |list, off, bytes: &Vec<u8>| luma_outside(n, list, off, bytes.len());
-    let own = |list, off, bytes: &Vec<u8>| own_outside(u.op, n, list, off, bytes.len());
-    if !size(n.w) {
+    let right = if has(g, RIGHT) { u.op.border() } else { 0 };
+    let luma = |list, off, bytes: &Vec<u8>| luma_outside(g, list, off, bytes.len());
+    let own = |list, off, bytes: &Vec<u8>| own_outside(u.op, g, list, off, bytes.len());
+    if !size(g.w) {
         1
-    } else if !size(n.h) {
+    } else if !size(g.h) {
         2
-    } else if n.stride < n.w + right || n.stride > 65_536 || (chroma && n.luma_stride > 65_536) {
+    } else if g.stride < g.w + right || g.stride > 65_536 || (chroma && g.luma_stride > 65_536) {
         3
-    } else if chroma && (![(0, 0), (1, 0), (1, 1)].contains(&(n.ss_hor, n.ss_ver)) || n.kind > 2) {
+    } else if chroma && (![(0, 0), (1, 0), (1, 1)].contains(&(g.ss_hor, g.ss_ver)) || g.kind > 2) {
         4
-    } else if own(List::Plane, n.off, &u.plane) {
+    } else if own(List::Plane, g.off, &u.plane) {
         5
-    } else if has(n, LEFT) && u.left.len() < 6 * n.h {
+    } else if has(g, LEFT) && u.left.len() < 6 * g.h {
         6
-    } else if own(List::Top, n.top_off, &u.top) {
+    } else if own(List::Top, g.top_off, &u.top) {
         7
-    } else if own(List::Bottom, n.bottom_off, &u.bottom) {
+    } else if own(List::Bottom, g.bottom_off, &u.bottom) {
         8
-    } else if u.skip.len() < n.h || (u.op.classed() && u.noskip.len() < n.h / 4) {
+    } else if u.skip.len() < g.h || (u.op.classed() && u.noskip.len() < g.h / 4) {
         9
     } else if filters_wrong(u) {
         10
     } else if chroma
-        && (luma(List::Plane, n.luma_off, &u.luma_plane)
-            || luma(List::Top, n.luma_top_off, &u.luma_top)
-            || luma(List::Bottom, n.luma_bottom_off, &u.luma_bottom))
+        && (luma(List::Plane, g.luma_off, &u.luma_plane)
+            || luma(List::Top, g.luma_top_off, &u.luma_top)
+            || luma(List::Bottom, g.luma_bottom_off, &u.luma_bottom))
     {
         11
     } else {
@@ -187,7 +187,7 @@ pub(crate) fn unit_status(n: &Numbers, u: &Unit) -> u8 {
 }
 
 /// The status of an advance of the operation of `u`, lent what it lends.
-pub(crate) fn advance_status(state: &exports::State, u: &Unit) -> u8 {
+pub(crate) fn advance_status(state: &raw::State, u: &Unit) -> u8 {
     let (op, index, next) = match u.op {
         Operation::Luma => (1, 9, 8),
         Operation::User => (2, 9, 8),
@@ -196,14 +196,14 @@ pub(crate) fn advance_status(state: &exports::State, u: &Unit) -> u8 {
     };
     let class_past = |&class: &u8| usize::from(class) >= u.filters.len() / set(u.op);
     if state.op != op
-        || state.done > state.numbers.h
+        || state.done > state.given.h
         || state.indices.iter().any(|&i| i > index)
         || state.next > next
         || (u.op.classed() && state.classes.iter().any(class_past))
     {
         13
     } else {
-        unit_status(&state.numbers, u)
+        unit_status(&state.given, u)
     }
 }
 

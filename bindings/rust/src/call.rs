@@ -32,7 +32,7 @@ macro_rules! call {
     }};
     ($name:ident, $plane:expr, $unit:expr, $borders:expr, $skip:expr, [$($own:expr),*]) => {{
         let (u, b) = ($unit, $borders);
-        $crate::exports::$name(
+        $crate::raw::$name(
             $plane, u.off, u.stride, b.left, b.top, u.top_off, b.bottom, u.bottom_off, u.w, u.h, $($own,)* u.edges, $skip,
         )
     }};

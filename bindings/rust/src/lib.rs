@@ -15,8 +15,8 @@
 //! lists are handed over flat: `left.as_flattened()`, `ll_mask.as_flattened()`.
 
 mod call;
-pub mod exports;
 mod lent;
+pub mod raw;
 mod refusal;
 mod state;
 mod whole;

@@ -1,5 +1,5 @@
 use crate::call::call;
-use crate::exports::{self, Advanced, Opened};
+use crate::raw::{self, Advanced, Opened};
 use crate::{Borders, Classes, Luma, LumaUnit, Pieces, Refusal, Unit};
 
 /// A unit that was opened and is restored in any number of advances.
@@ -34,7 +34,7 @@ use crate::{Borders, Classes, Luma, LumaUnit, Pieces, Refusal, Unit};
 /// # Ok::<(), Refusal>(())
 /// ```
 #[derive(Clone, Debug, PartialEq, Eq)]
-pub struct State(exports::State);
+pub struct State(raw::State);
 
 fn opened(answer: Opened) -> Result<State, Refusal> {
     Refusal::check(answer.status).map(|()| State(answer.state))
@@ -43,7 +43,7 @@ fn opened(answer: Opened) -> Result<State, Refusal> {
 impl State {
     /// Whether all rows of the unit are done.
     pub fn finished(&self) -> bool {
-        exports::gihvendu_finished(self.0.clone())
+        raw::gihvendu_finished(self.0.clone())
     }
 
     /// The rows that are done: those above this one are finished.
@@ -91,7 +91,7 @@ impl State {
         skip: &[u16],
     ) -> Result<Pieces, Refusal> {
         let (s, b) = (self.0.clone(), borders);
-        self.step(exports::gihvendu_advance_y(
+        self.step(raw::gihvendu_advance_y(
             s, count, plane, b.left, b.top, b.bottom, filter, skip,
         ))
     }
@@ -135,7 +135,7 @@ impl State {
         skip: &[u16],
     ) -> Result<Pieces, Refusal> {
         let (s, b, c) = (self.0.clone(), borders, classes);
-        self.step(exports::gihvendu_advance_n(
+        self.step(raw::gihvendu_advance_n(
             s, count, plane, b.left, b.top, b.bottom, c.filters, c.map, c.subclass, c.noskip,
             c.base_q, skip,
         ))
@@ -176,7 +176,7 @@ impl State {
         skip: &[u16],
     ) -> Result<Pieces, Refusal> {
         let (s, b, c) = (self.0.clone(), borders, classes);
-        self.step(exports::gihvendu_advance_p(
+        self.step(raw::gihvendu_advance_p(
             s, count, plane, b.left, b.top, b.bottom, c.filters, c.map, c.subclass, c.noskip,
             c.base_q, skip,
         ))
@@ -227,7 +227,7 @@ impl State {
         skip: &[u16],
     ) -> Result<Pieces, Refusal> {
         let (s, b) = (self.0.clone(), borders);
-        self.step(exports::gihvendu_advance_c(
+        self.step(raw::gihvendu_advance_c(
             s,
             count,
             plane,
@@ -244,14 +244,14 @@ impl State {
 }
 
 /// Any numbers may be handed in as a state: an advance refuses those that are none with [`Refusal::State`].
-impl From<exports::State> for State {
-    fn from(numbers: exports::State) -> State {
-        State(numbers)
+impl From<raw::State> for State {
+    fn from(state: raw::State) -> State {
+        State(state)
     }
 }
 
-impl From<State> for exports::State {
-    fn from(state: State) -> exports::State {
+impl From<State> for raw::State {
+    fn from(state: State) -> raw::State {
         state.0
     }
 }

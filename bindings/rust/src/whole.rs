@@ -1,5 +1,5 @@
 use crate::call::call;
-use crate::exports::{self, Restored};
+use crate::raw::{self, Restored};
 use crate::{Borders, Classes, Luma, LumaUnit, Pieces, Refusal, Unit};
 
 fn pieces(answer: Restored) -> Result<Pieces, Refusal> {
@@ -134,7 +134,6 @@ pub fn get_class_lut_idx_8bpc(
     by: usize,
     bh: usize,
 ) -> Result<u32, Refusal> {
-    let answer =
-        exports::gihvendu_get_class_lut_idx_8bpc(rows, indices, noskip, base_q, bx, by, bh);
+    let answer = raw::gihvendu_get_class_lut_idx_8bpc(rows, indices, noskip, base_q, bx, by, bh);
     Refusal::check(answer.status).map(|()| answer.index)
 }

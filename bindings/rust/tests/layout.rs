@@ -1,6 +1,6 @@
 //! The state crosses over whole: each of its numbers is found where it was put.
 
-use gihvendu::{Borders, Luma, LumaUnit, State, Unit, edges, exports};
+use gihvendu::{Borders, Luma, LumaUnit, State, Unit, edges, raw};
 
 #[test]
 fn chroma_numbers() {
@@ -38,9 +38,9 @@ fn chroma_numbers() {
         &plane, &unit, &borders, &[0; 18], &luma_unit, &luma, &[0; 4],
     )
     .unwrap();
-    let state = exports::State::from(state);
+    let state = raw::State::from(state);
     assert_eq!((state.op, state.done, state.classes), (4, 0, [0; 16]));
-    let expected = exports::Numbers {
+    let expected = raw::Given {
         w: 8,
         h: 4,
         edges: 1 + 4 + 8 + 64,
@@ -56,15 +56,15 @@ fn chroma_numbers() {
         ss_ver: 1,
         kind: 2,
     };
-    assert_eq!(state.numbers, expected);
+    assert_eq!(state.given, expected);
 }
 
 /// A forged number in the last byte of the state comes back, where a refusal hands it back as it came.
 #[test]
 fn last_byte() {
-    let mut forged = exports::State::default();
+    let mut forged = raw::State::default();
     forged.rows[1079] = 7;
-    let handed = exports::gihvendu_advance_y(forged.clone(), 1, &mut [], &[], &[], &[], &[], &[]);
+    let handed = raw::gihvendu_advance_y(forged.clone(), 1, &mut [], &[], &[], &[], &[], &[]);
     assert_eq!(
         (handed.status, handed.pieces, handed.state),
         (13, 0, forged)

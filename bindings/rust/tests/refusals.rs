@@ -2,9 +2,8 @@
 //! whole unit, as an opening and as an advance; a declined one must leave the plane and the state as they were.
 
 use gihvendu::{
-    Borders, Classes, Luma, LumaUnit, Pieces, Refusal, State, Unit, edges, exports,
-    get_class_lut_idx_8bpc, ns_wiener_multi_8bpc, ns_wiener_single_uv_8bpc,
-    ns_wiener_single_y_8bpc, pc_wiener_8bpc,
+    Borders, Classes, Luma, LumaUnit, Pieces, Refusal, State, Unit, edges, get_class_lut_idx_8bpc,
+    ns_wiener_multi_8bpc, ns_wiener_single_uv_8bpc, ns_wiener_single_y_8bpc, pc_wiener_8bpc, raw,
 };
 
 /// A unit with the left, right, top and bottom bits whose lists are as short as may be.
@@ -86,9 +85,9 @@ fn alike(
 /// A state of `sample` and this operation with the numbers that the unit has, good or bad.
 fn state_of(sample: &Sample, op: usize, luma: &LumaUnit) -> State {
     let u = &sample.unit;
-    State::from(exports::State {
+    State::from(raw::State {
         op,
-        numbers: exports::Numbers {
+        given: raw::Given {
             w: u.w,
             h: u.h,
             edges: u.edges,
@@ -104,7 +103,7 @@ fn state_of(sample: &Sample, op: usize, luma: &LumaUnit) -> State {
             ss_ver: luma.ss_ver,
             kind: luma.kind,
         },
-        ..exports::State::default()
+        ..raw::State::default()
     })
 }
 
@@ -354,33 +353,30 @@ fn class_index_5_and_9() {
 fn state_13() {
     let s = Sample::with_border(4);
     let (b, none) = (s.borders(), LumaUnit::default());
-    let advance = |state: exports::State| {
+    let advance = |state: raw::State| {
         s.advance(&State::from(state), |state, p| {
             state.advance_y(1, p, &b, &[1; 16], &s.skip)
         })
     };
-    let good = || exports::State::from(state_of(&s, 1, &none));
+    let good = || raw::State::from(state_of(&s, 1, &none));
     assert!(advance(good()).is_ok());
-    assert_eq!(advance(exports::State::default()), Err(Refusal::State));
+    assert_eq!(advance(raw::State::default()), Err(Refusal::State));
     for op in [2, 3, 4, 5] {
-        assert_eq!(
-            advance(exports::State { op, ..good() }),
-            Err(Refusal::State)
-        );
+        assert_eq!(advance(raw::State { op, ..good() }), Err(Refusal::State));
     }
     assert_eq!(
-        advance(exports::State { done: 5, ..good() }),
+        advance(raw::State { done: 5, ..good() }),
         Err(Refusal::State)
     );
     assert_eq!(
-        advance(exports::State { next: 9, ..good() }),
+        advance(raw::State { next: 9, ..good() }),
         Err(Refusal::State)
     );
     let mut indices = [9; 10];
-    assert!(advance(exports::State { indices, ..good() }).is_ok());
+    assert!(advance(raw::State { indices, ..good() }).is_ok());
     indices[3] = 10;
     assert_eq!(
-        advance(exports::State { indices, ..good() }),
+        advance(raw::State { indices, ..good() }),
         Err(Refusal::State)
     );
 }
@@ -397,7 +393,7 @@ fn kept_class_13() {
         base_q: 0,
     };
     let advance = |class: u8| {
-        let mut state = exports::State::from(state_of(&s, 2, &LumaUnit::default()));
+        let mut state = raw::State::from(state_of(&s, 2, &LumaUnit::default()));
         state.classes[15] = class;
         s.advance(&State::from(state), |state, p| {
             state.advance_n(1, p, &b, &classes, &s.skip)

@@ -54,13 +54,7 @@ fn in_64_kib() {
             ns_wiener_multi_8bpc(&mut plane, &UNIT, &borders, &user, &skip),
             pc_wiener_8bpc(&mut plane, &UNIT, &borders, &pretrained, &skip),
             ns_wiener_single_uv_8bpc(
-                &mut plane,
-                &UNIT,
-                &borders,
-                &[1; 18],
-                &luma_unit,
-                &luma,
-                &skip,
+                &mut plane, &UNIT, &borders, &[1; 18], &luma_unit, &luma, &skip,
             ),
         ];
         assert_eq!(all, [Ok(PIECES); 4]);

@@ -1,7 +1,7 @@
 //! The functions of the static library, one for one: numbers, slices and structs.
 //!
 //! A status is a number of document 01's table, 0 where the call is not refused. All of them are safe: each takes every
-//! number, length and state, and its contract in `crates/exports` says what comes of it. [`crate::State`] and the functions
+//! number, length and state, and its contract in `crates/gihvendu` says what comes of it. [`crate::State`] and the functions
 //! beside it say the same with fewer arguments.
 //!
 //! All that is `unsafe` in this package stands in the one macro of this module.
@@ -41,7 +41,7 @@ pub type ChromaTaps<'a> = &'a [i8; 18];
 /// The numbers that a unit is opened with; what its operation does not use is 0.
 #[repr(C)]
 #[derive(Clone, Copy, Debug, Default, PartialEq, Eq)]
-pub struct Numbers {
+pub struct Given {
     pub w: usize,
     pub h: usize,
     pub edges: usize,
@@ -64,7 +64,7 @@ pub struct Numbers {
 #[derive(Clone, Debug, PartialEq, Eq)]
 pub struct State {
     pub op: usize,
-    pub numbers: Numbers,
+    pub given: Given,
     pub done: usize,
     pub next: usize,
     pub classes: [u8; 16],
@@ -77,7 +77,7 @@ impl Default for State {
     fn default() -> State {
         State {
             op: 0,
-            numbers: Numbers::default(),
+            given: Given::default(),
             done: 0,
             next: 0,
             classes: [0; 16],
@@ -153,7 +153,7 @@ functions! {
     /// Pads a luma row of a chroma unit, from the plane or from a saved border.
     fn gihvendu_backup_row_luma_8bpc(
         dst: &mut [u8], o: usize, plane: &[u8], saved: &[u8], from_saved: bool, src_o: usize, src_stride: usize, w: usize,
-        edges: usize, ss_hor: usize, ss_ver: usize, cfl_ds_flt: usize,
+        edges: usize, ss_hor: usize, ss_ver: usize, kind: usize,
     ) -> u8;
 
     /// The quantizer term `i`.
@@ -166,30 +166,30 @@ functions! {
 
     /// A whole luma unit.
     fn gihvendu_ns_wiener_single_y_8bpc(
-        p: &mut [u8], p_off: usize, stride: usize, left: &[u8], lpf: &[u8], lpf_off: usize, lpf_bottom: &[u8],
-        lpf_bottom_off: usize, w: usize, h: usize, filter: &[i8], edges: usize, skip: &[u16],
+        plane: &mut [u8], off: usize, stride: usize, left: &[u8], top: &[u8], top_off: usize, bottom: &[u8],
+        bottom_off: usize, w: usize, h: usize, filter: &[i8], edges: usize, skip: &[u16],
     ) -> Restored;
 
     /// A whole unit with user sets.
     fn gihvendu_ns_wiener_multi_8bpc(
-        p: &mut [u8], p_off: usize, stride: usize, left: &[u8], lpf: &[u8], lpf_off: usize, lpf_bottom: &[u8],
-        lpf_bottom_off: usize, w: usize, h: usize, filters: &[i8], map: &[u8], subclass: &[u8], noskip: &[u16], base_q: i32,
+        plane: &mut [u8], off: usize, stride: usize, left: &[u8], top: &[u8], top_off: usize, bottom: &[u8],
+        bottom_off: usize, w: usize, h: usize, filters: &[i8], map: &[u8], subclass: &[u8], noskip: &[u16], base_q: i32,
         edges: usize, skip: &[u16],
     ) -> Restored;
 
     /// A whole unit with pretrained sets.
     fn gihvendu_pc_wiener_8bpc(
-        p: &mut [u8], p_off: usize, stride: usize, left: &[u8], lpf: &[u8], lpf_off: usize, lpf_bottom: &[u8],
-        lpf_bottom_off: usize, w: usize, h: usize, filters: &[i16], map: &[u8], subclass: &[u8], noskip: &[u16], base_q: i32,
+        plane: &mut [u8], off: usize, stride: usize, left: &[u8], top: &[u8], top_off: usize, bottom: &[u8],
+        bottom_off: usize, w: usize, h: usize, filters: &[i16], map: &[u8], subclass: &[u8], noskip: &[u16], base_q: i32,
         edges: usize, skip: &[u16],
     ) -> Restored;
 
     /// A whole chroma unit.
     fn gihvendu_ns_wiener_single_uv_8bpc(
-        p: &mut [u8], p_off: usize, stride: usize, left: &[u8], lpf: &[u8], lpf_off: usize, lpf_bottom: &[u8],
-        lpf_bottom_off: usize, w: usize, h: usize, filter: &[i8], luma: &[u8], luma_off: usize, lstride: usize,
+        plane: &mut [u8], off: usize, stride: usize, left: &[u8], top: &[u8], top_off: usize, bottom: &[u8],
+        bottom_off: usize, w: usize, h: usize, filter: &[i8], luma_plane: &[u8], luma_off: usize, luma_stride: usize,
         luma_top: &[u8], luma_top_off: usize, luma_bottom: &[u8], luma_bottom_off: usize, ss_hor: usize, ss_ver: usize,
-        ds_flt: usize, edges: usize, skip: &[u16],
+        kind: usize, edges: usize, skip: &[u16],
     ) -> Restored;
 
     /// Whether all rows of a unit are done.
@@ -197,52 +197,52 @@ functions! {
 
     /// Opens a luma unit.
     fn gihvendu_open_y(
-        p: &[u8], p_off: usize, stride: usize, left: &[u8], lpf: &[u8], lpf_off: usize, lpf_bottom: &[u8],
-        lpf_bottom_off: usize, w: usize, h: usize, filter: &[i8], edges: usize, skip: &[u16],
+        plane: &[u8], off: usize, stride: usize, left: &[u8], top: &[u8], top_off: usize, bottom: &[u8],
+        bottom_off: usize, w: usize, h: usize, filter: &[i8], edges: usize, skip: &[u16],
     ) -> Opened;
 
     /// Opens a unit with user sets.
     fn gihvendu_open_n(
-        p: &[u8], p_off: usize, stride: usize, left: &[u8], lpf: &[u8], lpf_off: usize, lpf_bottom: &[u8],
-        lpf_bottom_off: usize, w: usize, h: usize, filters: &[i8], map: &[u8], subclass: &[u8], noskip: &[u16], base_q: i32,
+        plane: &[u8], off: usize, stride: usize, left: &[u8], top: &[u8], top_off: usize, bottom: &[u8],
+        bottom_off: usize, w: usize, h: usize, filters: &[i8], map: &[u8], subclass: &[u8], noskip: &[u16], base_q: i32,
         edges: usize, skip: &[u16],
     ) -> Opened;
 
     /// Opens a unit with pretrained sets.
     fn gihvendu_open_p(
-        p: &[u8], p_off: usize, stride: usize, left: &[u8], lpf: &[u8], lpf_off: usize, lpf_bottom: &[u8],
-        lpf_bottom_off: usize, w: usize, h: usize, filters: &[i16], map: &[u8], subclass: &[u8], noskip: &[u16], base_q: i32,
+        plane: &[u8], off: usize, stride: usize, left: &[u8], top: &[u8], top_off: usize, bottom: &[u8],
+        bottom_off: usize, w: usize, h: usize, filters: &[i16], map: &[u8], subclass: &[u8], noskip: &[u16], base_q: i32,
         edges: usize, skip: &[u16],
     ) -> Opened;
 
     /// Opens a chroma unit.
     fn gihvendu_open_c(
-        p: &[u8], p_off: usize, stride: usize, left: &[u8], lpf: &[u8], lpf_off: usize, lpf_bottom: &[u8],
-        lpf_bottom_off: usize, w: usize, h: usize, filter: &[i8], luma: &[u8], luma_off: usize, lstride: usize,
+        plane: &[u8], off: usize, stride: usize, left: &[u8], top: &[u8], top_off: usize, bottom: &[u8],
+        bottom_off: usize, w: usize, h: usize, filter: &[i8], luma_plane: &[u8], luma_off: usize, luma_stride: usize,
         luma_top: &[u8], luma_top_off: usize, luma_bottom: &[u8], luma_bottom_off: usize, ss_hor: usize, ss_ver: usize,
-        ds_flt: usize, edges: usize, skip: &[u16],
+        kind: usize, edges: usize, skip: &[u16],
     ) -> Opened;
 
     /// The next `count` rows of a luma unit.
     fn gihvendu_advance_y(
-        state: State, count: usize, p: &mut [u8], left: &[u8], lpf: &[u8], lpf_bottom: &[u8], filter: &[i8], skip: &[u16],
+        state: State, count: usize, plane: &mut [u8], left: &[u8], top: &[u8], bottom: &[u8], filter: &[i8], skip: &[u16],
     ) -> Advanced;
 
     /// The next `count` rows of a unit with user sets.
     fn gihvendu_advance_n(
-        state: State, count: usize, p: &mut [u8], left: &[u8], lpf: &[u8], lpf_bottom: &[u8], filters: &[i8], map: &[u8],
+        state: State, count: usize, plane: &mut [u8], left: &[u8], top: &[u8], bottom: &[u8], filters: &[i8], map: &[u8],
         subclass: &[u8], noskip: &[u16], base_q: i32, skip: &[u16],
     ) -> Advanced;
 
     /// The next `count` rows of a unit with pretrained sets.
     fn gihvendu_advance_p(
-        state: State, count: usize, p: &mut [u8], left: &[u8], lpf: &[u8], lpf_bottom: &[u8], filters: &[i16], map: &[u8],
+        state: State, count: usize, plane: &mut [u8], left: &[u8], top: &[u8], bottom: &[u8], filters: &[i16], map: &[u8],
         subclass: &[u8], noskip: &[u16], base_q: i32, skip: &[u16],
     ) -> Advanced;
 
     /// The next `count` rows of a chroma unit.
     fn gihvendu_advance_c(
-        state: State, count: usize, p: &mut [u8], left: &[u8], lpf: &[u8], lpf_bottom: &[u8], filter: &[i8], luma: &[u8],
+        state: State, count: usize, plane: &mut [u8], left: &[u8], top: &[u8], bottom: &[u8], filter: &[i8], luma_plane: &[u8],
         luma_top: &[u8], luma_bottom: &[u8], skip: &[u16],
     ) -> Advanced;
 }
