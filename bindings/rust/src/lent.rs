@@ -48,7 +48,7 @@ pub struct Borders<'a> {
 
 /// Sets of filter numbers and what chooses between them for each block: `F` is `i8` for user sets (18 numbers each), `i16`
 /// for pretrained ones (13 each).
-#[derive(Clone, Copy, Debug)]
+#[derive(Clone, Copy, Debug, Default)]
 pub struct Classes<'a, F> {
     /// whole sets, one after another; `filters.as_flattened()` of tealdust's
     pub filters: &'a [F],

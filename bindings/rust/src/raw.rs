@@ -1,8 +1,19 @@
 //! The functions of the static library, one for one: numbers, slices and structs.
 //!
-//! A status is a number of document 01's table, 0 where the call is not refused. All of them are safe: each takes every
-//! number, length and state, and its contract in `crates/gihvendu` says what comes of it. [`crate::State`] and the functions
-//! beside it say the same with fewer arguments.
+//! A status is 0, or the number of a refusal: [`Refusal::from_status`](crate::Refusal::from_status) names it. All functions
+//! are safe: each takes every number, length and state, and its contract in `crates/gihvendu` says what comes of it.
+//! [`crate::State`] and the functions beside it say the same with fewer arguments.
+//!
+//! ```
+//! use gihvendu::{Operation, Refusal, raw};
+//!
+//! // A 4 by 4 luma unit without borders, then one that is 5 wide.
+//! let open = |w| raw::gihvendu_open_y(&[9; 16], 0, 4, &[], &[], 0, &[], 0, w, 4, &[0; 16], 0, &[0; 4]);
+//! let opened = open(4);
+//! assert_eq!(Refusal::from_status(opened.status), None);
+//! assert_eq!((opened.state.op, opened.state.given.w), (Operation::Luma.number(), 4));
+//! assert_eq!(Refusal::from_status(open(5).status), Some(Refusal::Width));
+//! ```
 //!
 //! All that is `unsafe` in this package stands in the one macro of this module.
 #![allow(clippy::too_many_arguments)]
@@ -38,37 +49,59 @@ pub type PretrainedTaps<'a> = &'a [i16; 13];
 /// The filter of a chroma run, lent.
 pub type ChromaTaps<'a> = &'a [i8; 18];
 
-/// The numbers that a unit is opened with; what its operation does not use is 0.
+/// The numbers that a unit is opened with; what its operation does not use is 0. [`crate::Unit`] and [`crate::LumaUnit`]
+/// have them by the same names.
 #[repr(C)]
 #[derive(Clone, Copy, Debug, Default, PartialEq, Eq)]
 pub struct Given {
+    /// samples in a row
     pub w: usize,
+    /// rows
     pub h: usize,
+    /// the sum of [`edges`](crate::edges) bits
     pub edges: usize,
+    /// bytes from a row to the next
     pub stride: usize,
+    /// bytes from a luma row to the next
     pub luma_stride: usize,
+    /// the place of the first sample in the plane
     pub off: usize,
+    /// the place of the first saved sample above
     pub top_off: usize,
+    /// the place of the first saved sample below
     pub bottom_off: usize,
+    /// the place of the first luma sample
     pub luma_off: usize,
+    /// the place of the first saved luma sample above
     pub luma_top_off: usize,
+    /// the place of the first saved luma sample below
     pub luma_bottom_off: usize,
+    /// horizontal subsampling
     pub ss_hor: usize,
+    /// vertical subsampling
     pub ss_ver: usize,
+    /// how two luma rows become one
     pub kind: usize,
 }
 
-/// A unit between two advances. `op`: 0 none, 1 luma, 2 user sets, 3 pretrained sets, 4 chroma. `rows`: ten padded rows of
-/// 76 bytes; of a chroma unit five of 76 and, behind them, five luma rows of 140.
+/// A unit between two advances.
 #[repr(C)]
 #[derive(Clone, Debug, PartialEq, Eq)]
 pub struct State {
+    /// the [number](crate::Operation::number) of the operation; 0 of no unit
     pub op: usize,
+    /// what the unit was opened with
     pub given: Given,
+    /// the rows that are done
     pub done: usize,
+    /// the slot of `rows` that the next padded row goes to
     pub next: usize,
+    /// the set of each block in the block row in progress, where blocks have classes
     pub classes: [u8; 16],
+    /// the slots of the padded rows that the next row is restored from, the upper ones first; of a chroma unit five of its
+    /// own and, behind them, five of luma
     pub indices: [usize; 10],
+    /// ten padded rows of 76 bytes; of a chroma unit five of 76 and, behind them, five luma rows of 140
     pub rows: [u8; 1080],
 }
 
@@ -87,11 +120,16 @@ impl Default for State {
     }
 }
 
+// The answers have the status first, then what was done, then the state. `Opened` alone has the state before the status:
+// behind it the library would copy the state once more where it restores a whole unit.
+
 /// What an opening answers.
 #[repr(C)]
 #[derive(Clone, Debug, PartialEq, Eq)]
 pub struct Opened {
+    /// the state of the unit; of zeros where refused
     pub state: State,
+    /// see [`Refusal::from_status`](crate::Refusal::from_status)
     pub status: u8,
 }
 
@@ -99,8 +137,11 @@ pub struct Opened {
 #[repr(C)]
 #[derive(Clone, Debug, PartialEq, Eq)]
 pub struct Advanced {
+    /// see [`Refusal::from_status`](crate::Refusal::from_status)
     pub status: u8,
+    /// the [pieces](crate::Pieces) that were restored; 0 where refused
     pub pieces: usize,
+    /// the state after it; where refused, as it came
     pub state: State,
 }
 
@@ -108,23 +149,29 @@ pub struct Advanced {
 #[repr(C)]
 #[derive(Clone, Copy, Debug, PartialEq, Eq)]
 pub struct Restored {
+    /// see [`Refusal::from_status`](crate::Refusal::from_status)
     pub status: u8,
+    /// the [pieces](crate::Pieces) that were restored; 0 where refused
     pub pieces: usize,
 }
 
-/// What the class index answers; the index is 0 where refused.
+/// What the class index answers.
 #[repr(C)]
 #[derive(Clone, Copy, Debug, PartialEq, Eq)]
 pub struct ClassIndex {
+    /// see [`Refusal::from_status`](crate::Refusal::from_status)
     pub status: u8,
+    /// the class index; 0 where refused
     pub index: u32,
 }
 
-/// What a quantizer term answers; the value is 0 where refused.
+/// What a quantizer term answers.
 #[repr(C)]
 #[derive(Clone, Copy, Debug, PartialEq, Eq)]
 pub struct Qval {
+    /// see [`Refusal::from_status`](crate::Refusal::from_status)
     pub status: u8,
+    /// the term; 0 where refused
     pub value: i32,
 }
 

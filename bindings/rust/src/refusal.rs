@@ -59,13 +59,26 @@ impl Refusal {
         self as u8
     }
 
-    /// What a status of the library says.
+    /// The refusal that a status of the library stands for, by its number. It is `None` for 0, where a call is not refused,
+    /// and for all that is no number of a refusal: those the library does not answer.
+    ///
+    /// ```
+    /// use gihvendu::Refusal;
+    ///
+    /// assert_eq!(Refusal::from_status(7), Some(Refusal::Top));
+    /// assert_eq!(Refusal::from_status(0), None);
+    /// assert_eq!(Refusal::from_status(14), None);
+    /// ```
+    pub fn from_status(status: u8) -> Option<Refusal> {
+        Refusal::ALL.into_iter().find(|r| r.number() == status)
+    }
+
+    /// What a status of the library says, which is 0 or a number of the table.
     pub(crate) fn check(status: u8) -> Result<(), Refusal> {
         if status == 0 {
             return Ok(());
         }
-        let refusal = Refusal::ALL.get(usize::from(status) - 1);
-        Err(*refusal.expect("by its contracts the library answers 0 to 13"))
+        Err(Refusal::from_status(status).expect("by its contracts the library answers 0 to 13"))
     }
 }
 

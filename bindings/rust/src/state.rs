@@ -1,12 +1,12 @@
 use crate::call::call;
 use crate::raw::{self, Advanced, Opened};
-use crate::{Borders, Classes, Luma, LumaUnit, Pieces, Refusal, Unit};
+use crate::{Borders, Classes, Luma, LumaUnit, Operation, Pieces, Refusal, Unit};
 
 /// A unit that was opened and is restored in any number of advances.
 ///
 /// It keeps the unit's numbers and some padded rows. The lists, filters and the plane are lent with each call, the same as
 /// at the opening; rows that are finished may be written over in between. A refused advance leaves both the state and the
-/// plane as they were.
+/// plane as they were. Each operation has its own pair of functions; [`State::open`] and [`State::advance`] take any.
 ///
 /// ```
 /// use gihvendu::{Borders, Refusal, State, Unit};
@@ -41,14 +41,41 @@ fn opened(answer: Opened) -> Result<State, Refusal> {
 }
 
 impl State {
-    /// Whether all rows of the unit are done.
-    pub fn finished(&self) -> bool {
-        raw::gihvendu_finished(self.0.clone())
+    /// The operation that the unit was opened for: `None` of the state of zeros, and where a forged number is none's.
+    ///
+    /// ```
+    /// use gihvendu::{Borders, Operation, Refusal, State, Unit, raw};
+    ///
+    /// let unit = Unit { w: 8, h: 4, stride: 8, ..Unit::default() };
+    /// let state = State::open_y(&[7; 32], &unit, &Borders::default(), &[0; 16], &[0; 4])?;
+    /// assert_eq!(state.operation(), Some(Operation::Luma));
+    /// assert_eq!((state.w(), state.h(), state.rows_done()), (8, 4, 0));
+    ///
+    /// assert_eq!(State::from(raw::State::default()).operation(), None);
+    /// # Ok::<(), Refusal>(())
+    /// ```
+    pub fn operation(&self) -> Option<Operation> {
+        Operation::from_number(self.0.op)
+    }
+
+    /// The samples in a row of the unit, as the state keeps it.
+    pub fn w(&self) -> usize {
+        self.0.given.w
+    }
+
+    /// The rows of the unit, as the state keeps them.
+    pub fn h(&self) -> usize {
+        self.0.given.h
     }
 
     /// The rows that are done: those above this one are finished.
     pub fn rows_done(&self) -> usize {
         self.0.done
+    }
+
+    /// Whether all rows of the unit are done.
+    pub fn finished(&self) -> bool {
+        raw::gihvendu_finished(self.0.clone())
     }
 
     /// Takes over what an advance answers. A refusal hands the state back as it came: that is proved of the library.
