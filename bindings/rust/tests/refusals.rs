@@ -428,3 +428,12 @@ fn numbers_and_words() {
         assert!(refusal.to_string().ends_with(&format!("({})", k + 1)));
     }
 }
+
+/// Every status is a refusal of its own number or none.
+#[test]
+fn statuses() {
+    for status in 0..=255 {
+        let number = Refusal::from_status(status).map(Refusal::number);
+        assert_eq!(number, (1..=13).contains(&status).then_some(status));
+    }
+}
