@@ -4,7 +4,7 @@ use std::hint::black_box;
 use std::time::Instant;
 
 use crate::bench::{BATCHES, line};
-use crate::calls::ForPort;
+use crate::calls::{Filters, ForPort};
 use crate::exec_context::ExecContext;
 use crate::random::Random;
 use crate::units::{ForRust, OPERATIONS, Operation, Spacing, Unit};
@@ -74,13 +74,19 @@ fn bench_units(size: usize) -> Vec<(String, Vec<Unit>)> {
         .collect()
 }
 
+fn for_port<'a>(units: &'a [Unit], filters: &'a [Filters]) -> Vec<ForPort<'a>> {
+    let pairs = units.iter().zip(filters);
+    pairs.map(|(u, f)| ForPort::new(u, f)).collect()
+}
+
 /// Whole units by the Rust and by the port.
 fn units() {
     let exec = &black_box(ExecContext::new());
     for size in [64, 4] {
         for (name, units) in bench_units(size) {
             let by_rust: Vec<ForRust<'_>> = units.iter().map(Unit::for_rust).collect();
-            let by_port: Vec<ForPort<'_>> = units.iter().map(ForPort::new).collect();
+            let filters: Vec<Filters> = units.iter().map(Filters::new).collect();
+            let by_port = for_port(&units, &filters);
             let least = measure_units(
                 &units,
                 |k, plane| by_rust[k].restore(exec, plane),
@@ -99,7 +105,8 @@ fn advances() {
         "64 by 64", "whole ns", "by rows ns", "rows/whole", "ns a row"
     );
     for (name, units) in bench_units(SIZE) {
-        let by_port: Vec<ForPort<'_>> = units.iter().map(ForPort::new).collect();
+        let filters: Vec<Filters> = units.iter().map(Filters::new).collect();
+        let by_port = for_port(&units, &filters);
         let (whole, rows) = measure_units(
             &units,
             |k, plane| assert!(by_port[k].restore(plane).is_ok()),

@@ -1,16 +1,33 @@
 //! Units handed to the port, through the package that programs in Rust call it by.
 
 use gihvendu::raw::{self, Given, Opened};
-use gihvendu::{Borders, Classes, Luma, LumaUnit, Pieces, Refusal, State};
+use gihvendu::{Borders, Classes, Lent, Luma, LumaUnit, Pieces, Refusal, State};
 
 use crate::units::{Operation, Unit};
 use crate::written::Written;
 
-/// A unit with its filters as the port takes them.
-pub(crate) struct ForPort<'a> {
-    unit: &'a Unit,
+/// A unit's filters in the port's types.
+#[derive(Clone, PartialEq, Eq)]
+pub(crate) struct Filters {
     narrow: Vec<i8>,
     wide: Vec<i16>,
+}
+
+impl Filters {
+    pub fn new(unit: &Unit) -> Filters {
+        Filters {
+            narrow: unit.narrow(),
+            wide: unit.wide(),
+        }
+    }
+}
+
+/// A unit as the port takes it, all but its plane.
+pub(crate) struct ForPort<'a> {
+    unit: gihvendu::Unit,
+    borders: Borders<'a>,
+    lent: Lent<'a>,
+    skip: &'a [u16],
 }
 
 /// What a run of the port answered and left.
@@ -32,17 +49,14 @@ fn run(
     plane: &[u8],
     call: impl FnOnce(&ForPort<'_>, &mut [u8]) -> Result<Pieces, Refusal>,
 ) -> Ran {
-    let before = unit.clone();
-    let lent = ForPort::new(unit);
-    let filters = (lent.narrow.clone(), lent.wide.clone());
+    let filters = Filters::new(unit);
+    let before = (unit.clone(), filters.clone());
     let mut plane = Written::new(plane.to_vec());
-    let answer = call(&lent, plane.list()).map_err(number);
-    let kept =
-        plane.around_kept() && *unit == before && filters == (lent.narrow.clone(), lent.wide);
+    let answer = call(&ForPort::new(unit, &filters), plane.list()).map_err(number);
     Ran {
         answer,
         plane: plane.now().to_vec(),
-        kept,
+        kept: plane.around_kept() && (unit, &filters) == (&before.0, &before.1),
     }
 }
 
@@ -64,13 +78,19 @@ pub(crate) struct Begun {
     pub kept: bool,
 }
 
+/// Opens a unit by the package and by the library's own function; the state must say what it is of.
 pub(crate) fn open(unit: &Unit) -> Begun {
-    let before = unit.clone();
-    let lent = ForPort::new(unit);
-    let answer = lent.open(&unit.plane).map_err(number);
-    let Opened { status, state } = lent.opened(&unit.plane);
+    let (before, filters) = (unit.clone(), Filters::new(unit));
+    let port = ForPort::new(unit, &filters);
+    let answer = port.open(&unit.plane).map_err(number);
+    let Opened { status, state } = port.opened(&unit.plane);
     let same = match &answer {
-        Ok(opened) => status == 0 && *opened == State::from(state.clone()),
+        Ok(opened) => {
+            status == 0
+                && *opened == State::from(state.clone())
+                && opened.operation() == Some(port.lent.operation())
+                && (opened.w(), opened.h()) == (unit.w, unit.h)
+        }
         Err(number) => status == *number,
     };
     Begun {
@@ -107,102 +127,78 @@ pub(crate) fn given(u: &Unit) -> Given {
     }
 }
 
+/// What the unit's operation alone is lent, and by that its operation.
+fn lent<'a>(u: &'a Unit, filters: &'a Filters) -> Lent<'a> {
+    match u.op {
+        Operation::Luma => Lent::Luma {
+            filter: &filters.narrow,
+        },
+        Operation::User => Lent::User {
+            classes: classes(u, &filters.narrow),
+        },
+        Operation::Pretrained => Lent::Pretrained {
+            classes: classes(u, &filters.wide),
+        },
+        Operation::Chroma => Lent::Chroma {
+            filter: &filters.narrow,
+            luma_unit: LumaUnit {
+                stride: u.luma_stride,
+                off: u.luma_off,
+                top_off: u.luma_top_off,
+                bottom_off: u.luma_bottom_off,
+                ss_hor: u.ss_hor,
+                ss_ver: u.ss_ver,
+                kind: u.kind,
+            },
+            luma: Luma {
+                plane: &u.luma_plane,
+                top: &u.luma_top,
+                bottom: &u.luma_bottom,
+            },
+        },
+    }
+}
+
+fn classes<'a, F>(u: &'a Unit, filters: &'a [F]) -> Classes<'a, F> {
+    Classes {
+        filters,
+        map: &u.map,
+        subclass: &u.subclass,
+        noskip: &u.noskip,
+        base_q: u.q,
+    }
+}
+
 impl<'a> ForPort<'a> {
-    pub fn new(unit: &'a Unit) -> Self {
+    pub fn new(u: &'a Unit, filters: &'a Filters) -> Self {
         ForPort {
-            unit,
-            narrow: unit.narrow(),
-            wide: unit.wide(),
-        }
-    }
-
-    fn place(&self) -> gihvendu::Unit {
-        let u = self.unit;
-        gihvendu::Unit {
-            w: u.w,
-            h: u.h,
-            edges: u.edges,
-            stride: u.stride,
-            off: u.off,
-            top_off: u.top_off,
-            bottom_off: u.bottom_off,
-        }
-    }
-
-    fn luma_place(&self) -> LumaUnit {
-        let u = self.unit;
-        LumaUnit {
-            stride: u.luma_stride,
-            off: u.luma_off,
-            top_off: u.luma_top_off,
-            bottom_off: u.luma_bottom_off,
-            ss_hor: u.ss_hor,
-            ss_ver: u.ss_ver,
-            kind: u.kind,
-        }
-    }
-
-    fn borders(&self) -> Borders<'_> {
-        let u = self.unit;
-        Borders {
-            left: &u.left,
-            top: &u.top,
-            bottom: &u.bottom,
-        }
-    }
-
-    fn luma(&self) -> Luma<'_> {
-        let u = self.unit;
-        Luma {
-            plane: &u.luma_plane,
-            top: &u.luma_top,
-            bottom: &u.luma_bottom,
-        }
-    }
-
-    fn classes<'b, F>(&'b self, filters: &'b [F]) -> Classes<'b, F> {
-        let u = self.unit;
-        Classes {
-            filters,
-            map: &u.map,
-            subclass: &u.subclass,
-            noskip: &u.noskip,
-            base_q: u.q,
+            unit: gihvendu::Unit {
+                w: u.w,
+                h: u.h,
+                edges: u.edges,
+                stride: u.stride,
+                off: u.off,
+                top_off: u.top_off,
+                bottom_off: u.bottom_off,
+            },
+            borders: Borders {
+                left: &u.left,
+                top: &u.top,
+                bottom: &u.bottom,
+            },
+            lent: lent(u, filters),
+            skip: &u.skip,
         }
     }
 
     /// Restores the unit in a plane.
     pub fn restore(&self, plane: &mut [u8]) -> Result<Pieces, Refusal> {
-        let (place, b, skip) = (&self.place(), &self.borders(), &self.unit.skip);
-        let (narrow, wide) = (&self.narrow, &self.wide);
-        match self.unit.op {
-            Operation::Luma => gihvendu::ns_wiener_single_y_8bpc(plane, place, b, narrow, skip),
-            Operation::User => {
-                gihvendu::ns_wiener_multi_8bpc(plane, place, b, &self.classes(narrow), skip)
-            }
-            Operation::Pretrained => {
-                gihvendu::pc_wiener_8bpc(plane, place, b, &self.classes(wide), skip)
-            }
-            Operation::Chroma => {
-                let (luma_place, luma) = (&self.luma_place(), &self.luma());
-                gihvendu::ns_wiener_single_uv_8bpc(plane, place, b, narrow, luma_place, luma, skip)
-            }
-        }
+        gihvendu::restore(plane, &self.unit, &self.borders, &self.lent, self.skip)
     }
 
     /// Opens the unit over a plane.
     pub fn open(&self, plane: &[u8]) -> Result<State, Refusal> {
-        let (place, b, skip) = (&self.place(), &self.borders(), &self.unit.skip);
-        let (narrow, wide) = (&self.narrow, &self.wide);
-        match self.unit.op {
-            Operation::Luma => State::open_y(plane, place, b, narrow, skip),
-            Operation::User => State::open_n(plane, place, b, &self.classes(narrow), skip),
-            Operation::Pretrained => State::open_p(plane, place, b, &self.classes(wide), skip),
-            Operation::Chroma => {
-                let (luma_place, luma) = (&self.luma_place(), &self.luma());
-                State::open_c(plane, place, b, narrow, luma_place, luma, skip)
-            }
-        }
+        State::open(plane, &self.unit, &self.borders, &self.lent, self.skip)
     }
 
     /// The next rows of a state, which need not be of this unit.
@@ -212,31 +208,22 @@ impl<'a> ForPort<'a> {
         count: usize,
         plane: &mut [u8],
     ) -> Result<Pieces, Refusal> {
-        let (b, skip) = (&self.borders(), &self.unit.skip);
-        let (narrow, wide) = (&self.narrow, &self.wide);
-        match self.unit.op {
-            Operation::Luma => state.advance_y(count, plane, b, narrow, skip),
-            Operation::User => state.advance_n(count, plane, b, &self.classes(narrow), skip),
-            Operation::Pretrained => state.advance_p(count, plane, b, &self.classes(wide), skip),
-            Operation::Chroma => state.advance_c(count, plane, b, narrow, &self.luma(), skip),
-        }
+        state.advance(count, plane, &self.borders, &self.lent, self.skip)
     }
 
     /// The library's own answer to an opening, which the package's `open` is made of.
     fn opened(&self, plane: &[u8]) -> Opened {
-        let u = self.unit;
+        let (u, b) = (&self.unit, &self.borders);
         macro_rules! opened {
-            ($open:ident, $filters:expr $(, $more:expr)*) => {
+            ($open:ident, $($own:expr),*) => {
                 raw::$open(
-                    plane, u.off, u.stride, &u.left, &u.top, u.top_off, &u.bottom, u.bottom_off, u.w, u.h, $filters, $($more,)*
-                    u.edges, &u.skip,
+                    plane, u.off, u.stride, b.left, b.top, u.top_off, b.bottom, u.bottom_off, u.w, u.h, $($own,)* u.edges, self.skip,
                 )
             };
         }
-        match u.op {
-            Operation::Luma => opened!(gihvendu_open_y, &self.narrow),
-            Operation::User => {
-                let c = self.classes(&self.narrow);
+        match self.lent {
+            Lent::Luma { filter } => opened!(gihvendu_open_y, filter),
+            Lent::User { classes: c } => {
                 opened!(
                     gihvendu_open_n,
                     c.filters,
@@ -246,8 +233,7 @@ impl<'a> ForPort<'a> {
                     c.base_q
                 )
             }
-            Operation::Pretrained => {
-                let c = self.classes(&self.wide);
+            Lent::Pretrained { classes: c } => {
                 opened!(
                     gihvendu_open_p,
                     c.filters,
@@ -257,19 +243,23 @@ impl<'a> ForPort<'a> {
                     c.base_q
                 )
             }
-            Operation::Chroma => opened!(
+            Lent::Chroma {
+                filter,
+                luma_unit: at,
+                luma,
+            } => opened!(
                 gihvendu_open_c,
-                &self.narrow,
-                &u.luma_plane,
-                u.luma_off,
-                u.luma_stride,
-                &u.luma_top,
-                u.luma_top_off,
-                &u.luma_bottom,
-                u.luma_bottom_off,
-                u.ss_hor,
-                u.ss_ver,
-                u.kind
+                filter,
+                luma.plane,
+                at.off,
+                at.stride,
+                luma.top,
+                at.top_off,
+                luma.bottom,
+                at.bottom_off,
+                at.ss_hor,
+                at.ss_ver,
+                at.kind
             ),
         }
     }

@@ -38,7 +38,7 @@ fn value<'a>(rest: &mut &'a [u8], name: &str) -> Result<&'a [u8], u8> {
 
 /// One to three digits with no leading zero.
 fn decimal(text: &[u8]) -> Result<usize, u8> {
-    let digits = text.iter().all(|b| (b'0'..=b'9').contains(b));
+    let digits = text.iter().all(u8::is_ascii_digit);
     let leading_zero = text.len() > 1 && text[0] == b'0';
     if text.is_empty() || text.len() > 3 || !digits || leading_zero {
         return Err(ILL_FORMED);
