@@ -114,7 +114,7 @@ fn linked(words: &[&str]) {
 
 #[cfg(not(feature = "linked"))]
 fn linked(_: &[&str]) {
-    eprintln!("all but vectors needs the port: build with --features linked");
+    eprintln!("this needs the port: build with --features linked");
     usage();
 }
 

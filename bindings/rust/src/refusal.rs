@@ -88,7 +88,7 @@ impl Display for Refusal {
             Refusal::Width => "the width is not a multiple of 4 in 4 to 64",
             Refusal::Height => "the height is not a multiple of 4 in 4 to 64",
             Refusal::Stride => "a stride is too small or over 65,536",
-            Refusal::Subsampling => "no such pair or kind of subsampling",
+            Refusal::Subsampling => "no such pair of subsampling, or no such kind",
             Refusal::Plane => "a sample of the plane lies outside",
             Refusal::Left => "the left list is too short",
             Refusal::Top => "a saved sample above lies outside",

@@ -1,8 +1,8 @@
-//! Every operation on a 64 by 64 unit, on a thread whose whole stack is 64 KiB.
+//! Every operation on a 64 by 64 unit, whole and opened and advanced, on a thread whose whole stack is 64 KiB.
 
 use gihvendu::{
-    Borders, Classes, Luma, LumaUnit, State, Unit, get_class_lut_idx_8bpc, ns_wiener_multi_8bpc,
-    ns_wiener_single_uv_8bpc, ns_wiener_single_y_8bpc, pc_wiener_8bpc,
+    Borders, Classes, Lent, Luma, LumaUnit, State, Unit, get_class_lut_idx_8bpc,
+    ns_wiener_multi_8bpc, ns_wiener_single_uv_8bpc, ns_wiener_single_y_8bpc, pc_wiener_8bpc,
 };
 
 const UNIT: Unit = Unit {
@@ -58,9 +58,25 @@ fn in_64_kib() {
             ),
         ];
         assert_eq!(all, [Ok(PIECES); 4]);
-        let mut state = State::open_p(&plane, &UNIT, &borders, &pretrained, &skip).unwrap();
-        let pieces = state.advance_p(64, &mut plane, &borders, &pretrained, &skip);
-        assert_eq!((pieces, state.finished()), (Ok(PIECES), true));
+        let filter = &[1; 18];
+        for lent in [
+            Lent::Luma {
+                filter: &filter[..16],
+            },
+            Lent::User { classes: user },
+            Lent::Pretrained {
+                classes: pretrained,
+            },
+            Lent::Chroma {
+                filter,
+                luma_unit,
+                luma,
+            },
+        ] {
+            let mut state = State::open(&plane, &UNIT, &borders, &lent, &skip).unwrap();
+            let pieces = state.advance(64, &mut plane, &borders, &lent, &skip);
+            assert_eq!((pieces, state.finished()), (Ok(PIECES), true));
+        }
         let index = get_class_lut_idx_8bpc(&[0; 760], &[0; 10], &noskip, 0, 3, 2, 16);
         assert!(index.is_ok());
     };
