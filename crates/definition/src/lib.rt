@@ -10,14 +10,20 @@ pub enum Operation {
 
 // Samples to a block's side, and the largest sample at 8 bits.
 pub const SIDE: usize = 4;
+
 pub const SAMPLE_LIMIT: usize = 255;
 
 // The sides of a unit and their blocks, the distance of two rows, and the entries of a class map.
 pub const WIDTH_LIMIT: usize = 64;
+
 pub const HEIGHT_LIMIT: usize = 64;
+
 pub const BLOCK_COLUMN_LIMIT: usize = WIDTH_LIMIT / SIDE;
+
 pub const BLOCK_ROW_LIMIT: usize = HEIGHT_LIMIT / SIDE;
+
 pub const STRIDE_LIMIT: usize = 65536;
+
 pub const MAP_SIZE: usize = 4096;
 
 // The last column of the noskip bits.
