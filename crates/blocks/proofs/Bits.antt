@@ -9,6 +9,7 @@ use lib.Pow.{shl-exact, mod-pow-add, pow-pos, shr-shr}
 use mathlib.Core.Bool.{true, false, cond}
 use lib.Dec.{eqb}
 use borrow.Author.Tests.{eq-eqb, ne-eqb}
+use Rattle.definition.specs.Limits.{blockColumnLimit}
 use Rattle.definition.specs.Blocks.{clearBelow, masked}
 
 -- a single digit counts as itself
@@ -35,7 +36,7 @@ count m (suc k) =
     omega (arith, ap ones e, f, ones-bit b hb, count m k, bit-share b hb)
 
 -- what the machine's `1 << k` is
-pub one-shl : (k : ℕ) → k ≤ 16 → (1 * 2 ^ k) % 2 ^ 32 ≡ 2 ^ k
+pub one-shl : (k : ℕ) → k ≤ blockColumnLimit → (1 * 2 ^ k) % 2 ^ 32 ≡ 2 ^ k
 one-shl k h = shl-exact 1 k 32 (omega arith) (omega arith) ∙ one-mul (2 ^ k)
 
 half-shr : (n i : ℕ) → n / 2 ^ suc i ≡ n / 2 / 2 ^ i

@@ -3,7 +3,9 @@ ghost use mathlib.Core.Path.{_≡_};
 ghost use Prim.Native.Nat.{_+_, _-_, _≤_, _<_};
 ghost use Rattle.definition.specs.Blocks.{masked, clearBelow, stretchEnd, stretchStart};
 ghost use Rattle.blocks.specs.Answers.{rowStatus, blockStatus, endOf};
+ghost use Rattle.definition.specs.Limits.{blockColumnLimit};
 ghost use Rattle.definition.specs.Rows.{orZero};
+use definition::BLOCK_COLUMN_LIMIT;
 
 pub struct Pieces {
     pub status: u8,
@@ -14,7 +16,7 @@ pub struct Pieces {
 pub fn pieces_of_row(mask: u16, bw: usize) -> Pieces
     ensures { λ r. ⌜ (r .status ≡ rowStatus bw) × (r .pieces ≡ orZero (rowStatus bw) (clearBelow mask bw)) ⌝ }
 {
-    if 16 < bw {
+    if BLOCK_COLUMN_LIMIT < bw {
         return Pieces {
             status: 5,
             pieces: 0,
@@ -27,29 +29,9 @@ pub fn pieces_of_row(mask: u16, bw: usize) -> Pieces
     }
 }
 
-pub struct End {
-    pub status: u8,
-    pub end: usize,
-}
-
 // The first masked block from bx on, else bw, by trailing zeros: where a stretch of unmasked blocks ends.
-pub fn stretch_end(mask: u16, bx: usize, bw: usize) -> End
-    ensures { λ r. ⌜ (r .status ≡ blockStatus bx bw) × (r .end ≡ orZero (blockStatus bx bw) (stretchEnd mask bx bw)) ⌝ }
-{
-    if 16 < bw {
-        return End { status: 5, end: 0 };
-    }
-    if bw < bx {
-        return End { status: 5, end: 0 };
-    }
-    End {
-        status: 0,
-        end: masked_end(mask, bx, bw),
-    }
-}
-
 fn masked_end(mask: u16, bx: usize, bw: usize) -> usize
-    requires { ⌜ (bx ≤ bw) × (bw ≤ 16) ⌝ }
+    requires { ⌜ (bx ≤ bw) × (bw ≤ blockColumnLimit) ⌝ }
     ensures { λ r. ⌜ r ≡ stretchEnd mask bx bw ⌝ }
 {
     let zeros = u32::trailing_zeros(mask as u32 >> bx as u32) as usize;
@@ -60,7 +42,7 @@ fn masked_end(mask: u16, bx: usize, bw: usize) -> usize
 }
 
 fn is_masked(mask: u16, bx: usize) -> bool
-    requires { ⌜ bx ≤ 15 ⌝ }
+    requires { ⌜ bx < blockColumnLimit ⌝ }
     ensures { λ r. ⌜ r ≡ masked mask bx ⌝ }
 {
     (mask >> bx) % 2 == 1
@@ -73,11 +55,11 @@ pub struct Stretch {
 }
 
 // The next stretch of unmasked blocks of one class from bx on: it ends at the first masked block or other class. Start and end are bw where there is none.
-pub fn class_stretch(mask: u16, classes: &[u8; 16], bx: usize, bw: usize) -> Stretch
+pub fn class_stretch(mask: u16, classes: &[u8; BLOCK_COLUMN_LIMIT], bx: usize, bw: usize) -> Stretch
     ensures { λ r. ⌜ (r .status ≡ blockStatus bx bw) × (r .start ≡ orZero (blockStatus bx bw) (stretchStart mask bx bw)) ⌝ }
     ensures { λ r. ⌜ r .end ≡ orZero (blockStatus bx bw) (endOf mask (now (classes .entry)) (stretchStart mask bx bw) bw) ⌝ }
 {
-    if 16 < bw {
+    if BLOCK_COLUMN_LIMIT < bw {
         return Stretch {
             status: 5,
             start: 0,

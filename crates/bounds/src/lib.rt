@@ -1,8 +1,9 @@
-// Tests of places against lengths, and the lesser of two, for all 64-bit numbers: nothing wraps.
+// Tests of places against lengths, and the lesser and the larger of two, for all 64-bit numbers: nothing wraps.
 ghost use mathlib.Core.Path.{_≡_};
-ghost use Prim.Native.Nat.{_+_, min};
+ghost use Prim.Native.Nat.{_+_, min, max};
 ghost use lib.Dec.{leb};
 ghost use Rattle.definition.specs.Refusals.{indicesUpTo};
+use definition::INDEX_COUNT;
 
 // Whether at + a + b is at most len.
 pub fn room(at: usize, a: usize, b: usize, len: usize) -> bool
@@ -18,12 +19,12 @@ pub fn room(at: usize, a: usize, b: usize, len: usize) -> bool
     b <= left - a
 }
 
-// Whether ten row indices are at most a limit.
-pub fn indices_up_to(indices: &[usize; 10], limit: usize) -> bool
+// Whether the row indices are at most a limit.
+pub fn indices_up_to(indices: &[usize; INDEX_COUNT], limit: usize) -> bool
     ensures { λ r. ⌜ r ≡ indicesUpTo limit (now (indices .entry)) ⌝ }
 {
     let mut k = 0;
-    while k < 10 {
+    while k < INDEX_COUNT {
         if limit < indices[k] {
             return false;
         }
@@ -36,4 +37,10 @@ pub fn least(a: usize, b: usize) -> usize
     ensures { λ r. ⌜ r ≡ min a b ⌝ }
 {
     if a < b { a } else { b }
+}
+
+pub fn larger(a: usize, b: usize) -> usize
+    ensures { λ r. ⌜ r ≡ max a b ⌝ }
+{
+    if a < b { b } else { a }
 }

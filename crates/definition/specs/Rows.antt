@@ -51,3 +51,10 @@ chromaFlat rows indices col dy dx = flatAround 0 rowBytes 2 rows indices col dy 
 
 abbrev pub chromaLumaFlat : List ℕ → List ℕ → ℕ → ℤ → ℤ → ℕ
 chromaLumaFlat rows indices col dy dx = flatAround lumaRowsAt lumaRowBytes 7 rows indices col dy dx
+
+-- the row indices of a state, and its bytes
+abbrev pub indexCount : ℕ
+indexCount = 10
+
+abbrev pub stateBytes : ℕ
+stateBytes = lumaRowsAt + 5 * lumaRowBytes

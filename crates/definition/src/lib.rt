@@ -28,3 +28,19 @@ pub const MAP_SIZE: usize = 4096;
 
 // The last column of the noskip bits.
 pub const LAST_COLUMN: usize = 15;
+
+// The row indices of a state, the bytes to a row and the byte of the unit's first sample, and the bytes of ten rows.
+pub const INDEX_COUNT: usize = 10;
+
+pub const ROW_BYTES: usize = 76;
+
+pub const ROW_ORIGIN: usize = 6;
+
+pub const ROWS_SIZE: usize = INDEX_COUNT * ROW_BYTES;
+
+// A chroma unit's five luma rows, which stand behind its own five, and the bytes of a state.
+pub const LUMA_ROW_BYTES: usize = 140;
+
+pub const LUMA_ROWS_AT: usize = 5 * ROW_BYTES;
+
+pub const STATE_BYTES: usize = LUMA_ROWS_AT + 5 * LUMA_ROW_BYTES;

@@ -8,6 +8,7 @@ use lib.ListN.{getD}
 use mathlib.Core.List.{List}
 use borrow.Author.Needs.{needs}
 use borrow.Author.Tests.{ne-eqb, eq-eqb}
+use Rattle.definition.specs.Limits.{blockColumnLimit}
 use Rattle.definition.specs.Blocks.{masked, firstOf, stretchStart, classEnd}
 use Rattle.blocks.proofs.First.{first-low, first-most, first-skip, first-here, first-end, first-later, first-either}
 use Rattle.blocks.proofs.Told.{block-wide, block-past, refused, found, missing}
@@ -22,14 +23,14 @@ abbrev other : ℕ → List ℕ → ℕ → ℕ → Bool
 other mask classes start k = masked mask k || not (eqb (getD classes k 0) (getD classes start 0))
 
 abbrev Inv-loop2 : tie.InvT-loop2
-Inv-loop2 mask classes bx bw at class limit next₀ next = (at < next) × (next ≤ limit) × (limit ≤ bw) × (bx ≤ bw) × (bw ≤ 16) × (class ≡ getD classes at 0) × (stretchStart mask bx bw ≡ at) ×
+Inv-loop2 mask classes bx bw at class limit next₀ next = (at < next) × (next ≤ limit) × (limit ≤ bw) × (bx ≤ bw) × (bw ≤ blockColumnLimit) × (class ≡ getD classes at 0) × (stretchStart mask bx bw ≡ at) ×
     (firstOf (masked mask) next (bw - next) ≡ limit) × (classEnd mask classes at bw ≡ firstOf (other mask classes at) next (bw - next))
 
 abbrev μ-loop2 : tie.MeasureT-loop2
 μ-loop2 mask classes bx bw at class limit next₀ next = limit - next
 
 abbrev Inv-loop : tie.InvT-loop
-Inv-loop mask classes bx bw at₀ at = (at ≤ bw) × (bw ≤ 16) × (bx ≤ bw) × (stretchStart mask bx bw ≡ firstOf (clear mask) at (bw - at))
+Inv-loop mask classes bx bw at₀ at = (at ≤ bw) × (bw ≤ blockColumnLimit) × (bx ≤ bw) × (stretchStart mask bx bw ≡ firstOf (clear mask) at (bw - at))
 
 abbrev μ-loop : tie.MeasureT-loop
 μ-loop mask classes bx bw at₀ at = bw - at

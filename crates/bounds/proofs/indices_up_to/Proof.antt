@@ -7,16 +7,17 @@ use lib.Dec.{leb}
 use lib.ListN.{getD}
 use borrow.Author.Needs.{needs}
 use borrow.Author.Tests.{lt-leb, le-leb}
+use Rattle.definition.specs.Rows.{indexCount}
 use Rattle.definition.specs.Refusals.{firstPass}
 use Rattle.laws.proofs.Passes.{pass-none, pass-more, pass-fails}
 use Rattle.bounds.proofs.indices_up_to.Statement.{statement}
 use Rattle.bounds.proofs.indices_up_to.Tie as tie
 
 abbrev Inv-loop : tie.InvT-loop
-Inv-loop indices limit k₀ k = (k ≤ 10) × (firstPass (λ i. leb i limit) k indices ≡ true)
+Inv-loop indices limit k₀ k = (k ≤ indexCount) × (firstPass (λ i. leb i limit) k indices ≡ true)
 
 abbrev μ-loop : tie.MeasureT-loop
-μ-loop indices limit k₀ k = 10 - k
+μ-loop indices limit k₀ k = indexCount - k
 
 loop-holds : tie.Need-loop-holds Inv-loop μ-loop
 loop-holds c = (omega arith, pass-none (λ i. leb i (c .args .limit)) (c .args .indices .now))
@@ -31,7 +32,7 @@ returns : tie.Need-returns Inv-loop μ-loop
 returns c =
     let a = c .before .before .before .before .args in
     let k = c .before .before .before .loop .k in
-    sym (pass-fails (λ i. leb i (a .limit)) (a .indices .now) 10 k (omega arith) (lt-leb (getD (a .indices .now) k 0) (a .limit) (c .if1 .taken)))
+    sym (pass-fails (λ i. leb i (a .limit)) (a .indices .now) indexCount k (omega arith) (lt-leb (getD (a .indices .now) k 0) (a .limit) (c .if1 .taken)))
 
 add-k : tie.Need-add-k Inv-loop μ-loop
 add-k c = search needs
@@ -49,7 +50,7 @@ returns-2 : tie.Need-returns-2 Inv-loop μ-loop
 returns-2 c =
     let a = c .before .before .args in
     let l = c .before .loop in
-    let e : l .k ≡ 10 = omega arith in
+    let e : l .k ≡ indexCount = omega arith in
     sym (rw e at (l .inv .1))
 
 pub indices-up-to-spec : {M : Type 1} → statement M
