@@ -10,7 +10,8 @@ use Rattle.definition.specs.Rows.{lumaFlat}
 use Rattle.definition.specs.ClassIndex.{bend, feature}
 use Rattle.features.specs.Features.{featureAt, columnBend, columnSum}
 use Rattle.laws.proofs.Ints.{sub-cases, sub-pos, before-pos}
-use Rattle.features.proofs.Sums.{sum-cong, exchanged}
+use Rattle.laws.proofs.Sums.{sumN-cong}
+use Rattle.features.proofs.Sums.{exchanged}
 
 -- a place that is a + z, and one that is d further
 further : (a : ℕ) (z d : ℤ) (m n : ℕ) → pos a +ℤ z ≡ pos m → pos n ≡ pos m +ℤ d → pos a +ℤ (z +ℤ d) ≡ pos n
@@ -72,12 +73,12 @@ feature-is rows indices columns a z bx mirrored sums =
     let d : ℤ = pos a -ℤ pos 3 in
     let s : ℤ → ℤ → ℕ = lumaFlat rows indices (6 + 4 * bx) in
     let b : ℕ → ℕ → ℕ = λ i j. bend s d (pos i -ℤ pos 1) (pos j -ℤ pos 1) in
-    sum-cong 6 (λ j. getD columns (2 + 4 * bx + j) 0) (λ j. sumN 6 (λ i. b i j))
+    sumN-cong 6 (λ j. getD columns (2 + 4 * bx + j) 0) (λ j. sumN 6 (λ i. b i j))
     (λ j h.
     let k : ℕ = 2 + 4 * bx + j in
     let m : 3 + k ≡ 5 + 4 * bx + j = omega arith in
     sums j h ∙
-    sum-cong 6 (columnBend rows indices (a + k) (3 + k) (z + k)) (λ i. b i j)
+    sumN-cong 6 (columnBend rows indices (a + k) (3 + k) (z + k)) (λ i. b i j)
     (λ i l.
     ap (λ (n : ℕ). columnBend rows indices (a + k) n (z + k) i) m ∙
     bend-is rows indices d bx i j (a + k) (z + k)

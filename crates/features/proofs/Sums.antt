@@ -1,16 +1,8 @@
--- Sums: term by term, of two rules, and of rows and columns in either order.
+-- Sums: of two rules, and of rows and columns in either order.
 use mathlib.Core.Path.{_≡_, refl, _∙_}
-use Prim.Native.Nat.{ℕ, zero, suc, _+_, _<_}
+use Prim.Native.Nat.{ℕ, zero, suc, _+_}
 use native.Mathlib.Omega.{arith}
 use Rattle.definition.specs.Numbers.{sumN}
-
-pub sum-cong : (n : ℕ) (f g : ℕ → ℕ) → ((j : ℕ) → j < n → f j ≡ g j) → sumN n f ≡ sumN n g
-unfolding sumN
-sum-cong zero f g e = refl
-sum-cong (suc n) f g e =
-    let a = sum-cong n f g (λ j h. e j (omega arith)) in
-    let b = e n (omega arith) in
-    (λ i. a i + b i)
 
 sum-zero : (n : ℕ) → 0 ≡ sumN n (λ j. 0)
 unfolding sumN

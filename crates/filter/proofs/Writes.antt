@@ -1,7 +1,7 @@
 -- What the three runs share: a loop that stores f 0, f 1, .. from the start of the destination on, and what is left of it at the end.
 use mathlib.Core.Path.{_≡_, refl, ap, _∙_}
 use mathlib.Core.List.{List}
-use Prim.Native.Nat.{ℕ, zero, suc, _+_, _≤_, _<_, zero-le}
+use Prim.Native.Nat.{ℕ, _+_, _≤_, _<_, zero-le}
 use native.Mathlib.Nat.{zero-add}
 use native.Mathlib.Decide.{ℕ-discrete}
 use native.Mathlib.Omega.{arith}
@@ -53,13 +53,9 @@ module _ {asked : Type 0} {f : ℕ → ℕ} {d₀ : List ℕ} {n : ℕ} {d : Lis
   pub written : n ≤ x → d ≡ sets d₀ 0 (tab n f)
   written l = let e : x ≡ n = omega (arith, h .turns) in rw (← e) (h .is)
 
--- a run that is not refused leaves what it wrote, and one that is leaves the destination
+-- a run that is not refused leaves what it wrote
 pub done : (status : ℕ) (d₀ w : List ℕ) {d : List ℕ} → status ≡ 0 → d ≡ w → d ≡ unlessRefused status d₀ w
 done status d₀ w z e = rw z e
-
-pub refused : (status : ℕ) (d w : List ℕ) → (status ≡ 0 → ⊥) → d ≡ unlessRefused status d w
-refused zero d w h = absurd (h refl)
-refused (suc s) d w h = refl
 
 -- a local list of n, of which the first j are f 0, f 1, ..
 pub record Filled (f : ℕ → ℕ) (n : ℕ) (out : List ℕ) (j : ℕ) : Type 0 where

@@ -36,10 +36,14 @@ pub length-tab {ℓ} : {A : Type ℓ} (n : ℕ) (f : ℕ → A) → length (tab 
 length-tab zero f = refl
 length-tab (suc n) f = ap suc (length-tab n (λ i. f (suc i)))
 
+-- an entry of it, of any type, and of a list of numbers
+pub tab-at {ℓ} : {A : Type ℓ} (d : A) (n : ℕ) (f : ℕ → A) (i : ℕ) → i < n → getD (tab n f) i d ≡ f i
+tab-at d zero f i h = absurd (not-suc-le-zero h)
+tab-at d (suc n) f zero h = refl
+tab-at d (suc n) f (suc i) h = tab-at d n (λ j. f (suc j)) i (le-of-suc-le-suc h)
+
 pub getD-tab : (n : ℕ) (f : ℕ → ℕ) (i : ℕ) → i < n → getD (tab n f) i 0 ≡ f i
-getD-tab zero f i h = absurd (not-suc-le-zero h)
-getD-tab (suc n) f zero h = refl
-getD-tab (suc n) f (suc i) h = getD-tab n (λ j. f (suc j)) i (le-of-suc-le-suc h)
+getD-tab = tab-at 0
 
 pub tab-low : (n : ℕ) (f : ℕ → ℕ) (b : ℕ) → ((i : ℕ) → i < n → f i ≤ b) → (j : ℕ) → getD (tab n f) j 0 ≤ b
 tab-low zero f b h j = zero-le

@@ -8,7 +8,7 @@ use native.Mathlib.Decide.{ℕ-discrete}
 use native.Mathlib.Numerals.{add-one}
 use native.Mathlib.Omega.{arith}
 use lib.ListN.{getD}
-use Rattle.definition.specs.Rows.{outsideUnless}
+use Rattle.definition.specs.Rows.{outsideUnless, unlessRefused}
 use Rattle.definition.specs.Refusals.{firstPass}
 use Rattle.laws.proofs.Ints.{never}
 
@@ -18,7 +18,7 @@ both true true e = (refl, refl)
 both true false e = absurd (never e)
 both false b e = absurd (never e)
 
--- neither part of a disjunction that fails; a call that is not outside; the first of several conditions does not apply
+-- neither part of a disjunction that fails; a call that is not outside
 pub not-both : (a b : Bool) → (a || b) ≡ false → (a ≡ false) × (b ≡ false)
 not-both true b e = absurd (never (sym e))
 not-both false b e = (refl, e)
@@ -27,6 +27,12 @@ pub inside : (b : Bool) → outsideUnless b ≡ 0 → b ≡ true
 inside true e = refl
 inside false e = absurd (omega arith)
 
+-- a call that is refused leaves what it was lent
+pub refused : (status : ℕ) (old written : List ℕ) → (status ≡ 0 → ⊥) → old ≡ unlessRefused status old written
+refused zero old written h = absurd (h refl)
+refused (suc status) old written h = refl
+
+-- the first of several conditions does not apply
 pub first-clear : (b : Bool) (n rest : ℕ) → 0 < n → cond b n rest ≡ 0 → (b ≡ false) × (rest ≡ 0)
 first-clear true n rest h e = absurd (omega arith)
 first-clear false n rest h e = (refl, e)

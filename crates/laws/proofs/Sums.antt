@@ -1,7 +1,7 @@
 -- A sum that is taken tap by tap: after k taps it is C + f 0 + .. + f (k - 1). Each tap adds at most D to a bound that starts at B.
 -- One law for the taps of luma, of chroma, of chroma's luma and of the pretrained filters: they differ in C, f and the two bounds.
-use mathlib.Core.Path.{_≡_, sym, ap, subst, _∙_}
-use Prim.Native.Nat.{ℕ, _+_, _*_, _^_, _<_, _≤_}
+use mathlib.Core.Path.{_≡_, refl, sym, ap, subst, _∙_}
+use Prim.Native.Nat.{ℕ, zero, suc, _+_, _*_, _^_, _<_, _≤_}
 use native.Mathlib.Omega.{arith}
 use native.Mathlib.Numerals.{add-one}
 use lib.IntN.{ℤ, natAbs, _+ℤ_, +ℤ-assoc, +ℤ-idr}
@@ -22,6 +22,12 @@ sumZ-suc C f k = rw (add-one k) (+ℤ-assoc C (sumZ k f) (f k))
 pub sumN-suc : (f : ℕ → ℕ) (k : ℕ) → sumN k f + f k ≡ sumN (k + 1) f
 unfolding sumN
 sumN-suc f k = rw (add-one k)
+
+-- sums whose terms agree
+pub sumN-cong : (n : ℕ) (f g : ℕ → ℕ) → ((k : ℕ) → k < n → f k ≡ g k) → sumN n f ≡ sumN n g
+unfolding sumN
+sumN-cong zero f g e = refl
+sumN-cong (suc n) f g e = λ i. sumN-cong n f g (λ k h. e k (omega arith)) i + e n (omega arith) i
 
 -- before the first tap
 pub begun : {C : ℤ} {f : ℕ → ℤ} {B D : ℕ} {s : ℤ} → s ≡ C → natAbs s ≤ B → Partial C f B D 0 s

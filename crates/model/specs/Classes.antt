@@ -1,16 +1,11 @@
 -- Class indices that agree: the features look at eight rows and columns, from two before the block's first sample on.
-use mathlib.Core.Path.{_≡_, refl, sym, _∙_}
+use mathlib.Core.Path.{_≡_, sym, _∙_}
 use mathlib.Core.List.{List}
 use Prim.Native.Nat.{ℕ, zero, suc, _+_, _*_, _<_}
 use native.Mathlib.Omega.{arith}
 use lib.IntN.{ℤ, pos, negsuc, natAbs, _+ℤ_, _-ℤ_, +ℤ-assoc}
-use Rattle.definition.specs.Numbers.{sumN}
 use Rattle.definition.specs.ClassIndex.{bend, feature, indexOf, skipFactor, skipSum, classIndex}
-
-pub sumN-cong : (n : ℕ) (f g : ℕ → ℕ) → ((k : ℕ) → k < n → f k ≡ g k) → sumN n f ≡ sumN n g
-unfolding sumN
-sumN-cong zero f g e = refl
-sumN-cong (suc n) f g e = λ i. sumN-cong n f g (λ k h. e k (omega arith)) i + e n (omega arith) i
+use Rattle.laws.proofs.Sums.{sumN-cong}
 
 -- windows that agree on the eight rows and columns from -2 on
 abbrev pub Eight : (ℤ → ℤ → ℕ) → (ℤ → ℤ → ℕ) → Type 0

@@ -2,7 +2,7 @@
 -- The laws: what a repeated row is, the rule of their ring, and that the rows seen from a sample are the definition's.
 use mathlib.Core.Path.{_≡_, refl, _∙_, ap, subst}
 use mathlib.Core.Bool.{Bool, true, false, cond, _&&_, _||_}
-use mathlib.Core.List.{List}
+use mathlib.Core.List.{List, []}
 use Prim.Native.Nat.{ℕ, zero, suc, _+_, _*_, _-_, _%_, _^_, _≤_, _<_}
 use native.Mathlib.Decide.{decLt}
 use native.Mathlib.Nat.{mul-le-mul}
@@ -17,11 +17,11 @@ use Rattle.definition.specs.Padding.{hasTop, hasBottom, topIntegrated, bottomIn
 use Rattle.definition.specs.Units.{chroma, Given, Lent, lumaAt, lumaAround, lumaPart, lumaOwn, upperSaved, lowerSaved, step}
 use Rattle.definition.specs.Refusals.{badSampling}
 use Rattle.laws.proofs.Ints.{sub-pos, sub-neg, sub-cases, abs-mul, nonneg-add}
-use Rattle.laws.proofs.Lists.{length-tab, getD-tab, sets-in}
+use Rattle.laws.proofs.Lists.{length-tab, tab-at, getD-tab, sets-in}
 use Rattle.history.specs.Ring.{Rule, rows-apart}
 use Rattle.model.specs.Rows.{padRow, own, src, firstRow}
 use Rattle.laws.proofs.Passes.{not-both}
-use Rattle.model.specs.Views.{viewAround, getD-tabs, place-high, back, place-split}
+use Rattle.model.specs.Views.{viewAround, place-high, back, place-split}
 
 -- the bytes of a luma row: four before the samples, the samples, four behind them; columns that are not filled, and all else, are 0
 unfoldable pub lumaPadRow : Given → Lent → ℕ → List ℕ
@@ -163,7 +163,7 @@ module _ (g : Given) (l : Lent) (wide : g .w ≤ 64) (fair : badSampling (g .ssH
       let hi : x * step g l + step g l ≤ g .w * step g l = rows-apart (step g l) x (g .w) hx in
       let some : 1 ≤ step g l = step-some (g .ssHor) (pair-low .0) in
       let c : natAbs (pos (rowOrigin + x * step g l) +ℤ d) ≡ rowOrigin - 4 + i = place-split rowOrigin (x * step g l) 4 d (nonneg-add 4 d nd) (omega arith) in
-      ap (λ (r : List ℕ). getD r (natAbs (pos (rowOrigin + x * step g l) +ℤ d)) 0) (getD-tabs 5 (λ k. lumaPadRow g l (y + k)) j (omega arith)) ∙
+      ap (λ (r : List ℕ). getD r (natAbs (pos (rowOrigin + x * step g l) +ℤ d)) 0) (tab-at [] 5 (λ k. lumaPadRow g l (y + k)) j (omega arith)) ∙
       (ap (λ (m : ℕ). getD (lumaPadRow g l (y + j)) m 0) c ∙
       (luma-byte g l luma-wide (y + j) i (omega arith) (even-place (g .ssHor) (g .ssVer) (g .kind) (pair-low .0) (pair-low .1) x dx) ∙
       (λ t. lumaAt g l (back y 2 dy (nonneg-add 2 dy ny) t) (back (x * step g l) 4 d (nonneg-add 4 d nd) t))))

@@ -3,7 +3,7 @@
 use mathlib.Core.Path.{_≡_, refl, sym, _∙_, ap}
 use mathlib.Core.List.{List, []}
 use Prim.Native.Nat.{ℕ, zero, suc, _+_, _*_, _-_, _≤_, _<_}
-use native.Mathlib.Nat.{not-suc-le-zero, le-of-suc-le-suc, mul-comm}
+use native.Mathlib.Nat.{mul-comm}
 use native.Mathlib.Omega.{arith}
 use lib.Dec.{T}
 use lib.IntN.{ℤ, pos, negℤ, natAbs, _+ℤ_, _-ℤ_, _*ℤ_, +ℤ-assoc, +ℤ-comm, +ℤ-negℤ-cancel}
@@ -15,7 +15,7 @@ use Rattle.definition.specs.Rows.{tab, flatAround, rowBytes, rowOrigin}
 use Rattle.definition.specs.Sample.{rounded, dyOf, dxOf, centre, pairOf, nsTap, pcTap, lumaTap, nsConfigY, nsConfigUv, nsConfigUvFromY, pcConfig, lumaSample, pretrainedSample, chromaSample}
 use Rattle.definition.specs.Units.{Operation, border, Given, Lent, sampleAt, around}
 use Rattle.laws.proofs.Ints.{abs-neg, abs-add, nonneg-add}
-use Rattle.laws.proofs.Lists.{getD-tab, length-tab, sets-in}
+use Rattle.laws.proofs.Lists.{tab-at, getD-tab, length-tab, sets-in}
 use Rattle.laws.proofs.Tables.{all, near, near-at}
 use Rattle.history.specs.Ring.{rowOf}
 use Rattle.model.specs.Rows.{padRow}
@@ -75,11 +75,6 @@ chroma-agree limit step s t l m c d a b z e =
 abbrev pub viewAround : ℕ → List (List ℕ) → ℕ → ℤ → ℤ → ℕ
 viewAround mid rows col dy dx = getD (getD rows (natAbs (pos mid +ℤ dy)) []) (natAbs (pos col +ℤ dx)) 0
 
-pub getD-tabs : (n : ℕ) (f : ℕ → List ℕ) (i : ℕ) → i < n → getD (tab n f) i [] ≡ f i
-getD-tabs zero f i h = absurd (not-suc-le-zero h)
-getD-tabs (suc n) f zero h = refl
-getD-tabs (suc n) f (suc i) h = getD-tabs n (λ j. f (suc j)) i (le-of-suc-le-suc h)
-
 -- the place a tap leads to, from a place that has so many before it
 pub place-high : (a : ℕ) (d : ℤ) (e : ℕ) → natAbs d ≤ e → natAbs (pos a +ℤ d) ≤ a + e
 place-high a d e h = omega (arith, abs-add (pos a) d)
@@ -93,7 +88,7 @@ flat-view first len mid n col rows idx dy dx h k =
     let s : ℕ = getD idx j 0 in
     let d : first + (s * len + c) ≡ first + len * s + c = omega (arith, mul-comm len s) in
     sym
-    (ap (λ (r : List ℕ). getD r c 0) (getD-tabs n (λ i. rowOf len (drop first rows) (getD idx i 0)) j h) ∙
+    (ap (λ (r : List ℕ). getD r c 0) (tab-at [] n (λ i. rowOf len (drop first rows) (getD idx i 0)) j h) ∙
     (getD-take len (drop (s * len) (drop first rows)) c 0 k ∙
     (getD-drop (s * len) (drop first rows) c 0 ∙ (getD-drop first rows (s * len + c) 0 ∙ ap (λ (z : ℕ). getD rows z 0) d))))
 
@@ -128,7 +123,7 @@ module _ (op : Operation) (g : Given) (l : Lent) (p : List ℕ) (wide : g .w ≤
       let e : ℕ = border op in
       let j : ℕ = natAbs (pos e +ℤ dy) in
       let c : natAbs (pos (rowOrigin + x) +ℤ dx) ≡ rowOrigin - e + (x + natAbs (pos e +ℤ dx)) = place-split rowOrigin x e dx nx (omega arith) in
-      ap (λ (r : List ℕ). getD r (natAbs (pos (rowOrigin + x) +ℤ dx)) 0) (getD-tabs n (λ k. padRow op g l p (y + k)) j lj) ∙
+      ap (λ (r : List ℕ). getD r (natAbs (pos (rowOrigin + x) +ℤ dx)) 0) (tab-at [] n (λ k. padRow op g l p (y + k)) j lj) ∙
       (ap (λ (m : ℕ). getD (padRow op g l p (y + j)) m 0) c ∙
       (pad-byte (y + j) (x + natAbs (pos e +ℤ dx)) li ∙ (λ t. sampleAt op g l p (back y e dy ny t) (back x e dx nx t))))
 

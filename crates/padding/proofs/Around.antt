@@ -3,9 +3,8 @@ use mathlib.Core.Path.{_≡_, refl, sym, ap, _∙_}
 use mathlib.Core.Bool.{Bool, true, false, cond}
 use mathlib.Core.List.{List}
 use Prim.Native.Nat.{ℕ, zero, suc, _+_, _-_, _≤_, _<_}
-use native.Mathlib.Nat.{not-le-of-lt, not-suc-le-zero}
 use native.Mathlib.Omega.{arith}
-use lib.IntN.{ℤ, pos, negsuc, _-ℤ_, +ℤ-assoc, subℕ}
+use lib.IntN.{pos, negsuc, _-ℤ_, +ℤ-assoc}
 use lib.ListN.{getD}
 use lib.Seq.{sets}
 use borrow.Author.Tests.{lt-ltb, le-ltb}
@@ -13,32 +12,17 @@ use Rattle.definition.specs.Rows.{tab}
 use Rattle.definition.specs.Numbers.{byteAt}
 use Rattle.definition.specs.Padding.{rowAt, after, padded}
 use Rattle.definition.specs.Refusals.{beside}
-use Rattle.laws.proofs.Ints.{sub-cases, never}
+use Rattle.laws.proofs.Ints.{never, sub-pos, sub-neg, before-pos}
 use Rattle.laws.proofs.Lists.{tab-cong, sets-run}
 
 -- a byte of a list whose place is counted another way
 pub same-byte : (l : List ℕ) (i j : ℕ) → i ≡ j → getD l i 0 ≡ getD l j 0
 same-byte l i j e = ap (λ (k : ℕ). getD l k 0) e
 
--- a difference of two places, by which is the larger
-less-sub : (a b : ℕ) → a < b → subℕ a b ≡ negsuc (b - suc a)
-less-sub a b h = sub-cases a b (λ (z : ℤ). z ≡ negsuc (b - suc a)) (λ _. refl) (λ k. absurd (not-le-of-lt h k))
-
-more-sub : (a b : ℕ) → b ≤ a → subℕ a b ≡ pos (a - b)
-more-sub a b h = sub-cases a b (λ (z : ℤ). z ≡ pos (a - b)) (λ k. absurd (not-le-of-lt k h)) (λ _. refl)
-
-pub less : (a b : ℕ) → a < b → pos a -ℤ pos b ≡ negsuc (b - suc a)
-less a zero h = absurd (not-suc-le-zero h)
-less a (suc b) h = less-sub a (suc b) h
-
-pub more : (a b : ℕ) → b ≤ a → pos a -ℤ pos b ≡ pos (a - b)
-more a zero h = ap pos (omega arith)
-more a (suc b) h = more-sub a (suc b) h
-
 -- the byte of a row that starts at s, j - e columns from there
 pub row-column : (bytes : List ℕ) (s j e : ℕ) → e ≤ s + j → rowAt bytes (pos s) (pos j -ℤ pos e) ≡ getD bytes (s + j - e) 0
 row-column bytes s j zero h = same-byte bytes (s + (j + 0)) (s + j - 0) (omega arith)
-row-column bytes s j (suc e) h = ap (byteAt bytes) (sym (+ℤ-assoc (pos s) (pos j) (negsuc e)) ∙ more-sub (s + j) (suc e) h)
+row-column bytes s j (suc e) h = ap (byteAt bytes) (sym (+ℤ-assoc (pos s) (pos j) (negsuc e)) ∙ before-pos (s + j) e h)
 
 -- samples that are padded from only where an edge bit is set
 pub beside-inside : (b : Bool) (e n : ℕ) → (b ≡ true → e ≤ n) → beside b e ≤ n
@@ -73,13 +57,13 @@ module _ (src left : List ℕ) (o srcO leftO w e : ℕ) (some : 1 ≤ w) (front 
   before-at true R j h b =
       let l : e ≤ leftO = b refl in
       let n : leftO - e + j ≡ leftO - suc (e - suc j) = omega arith in
-      rw (less j e h) (same-byte left (leftO - e + j) (leftO - suc (e - suc j)) n ∙ sym (ap (byteAt left) (more-sub leftO (suc (e - suc j)) (omega arith))))
-  before-at false R j h b = rw (less j e h) (same-byte src srcO (srcO + 0) (omega arith))
+      rw (sub-neg j e h) (same-byte left (leftO - e + j) (leftO - suc (e - suc j)) n ∙ sym (ap (byteAt left) (before-pos leftO (e - suc j) (omega arith))))
+  before-at false R j h b = rw (sub-neg j e h) (same-byte src srcO (srcO + 0) (omega arith))
 
   from-first : (L R : Bool) (x : ℕ) → padded L R w (w - 1) (after left leftO (rowAt src (pos srcO))) (pos x) ≡ column L R (e + x)
   from-first L R x =
       let d : e + x - e ≡ x = omega arith in
-      rw (more (e + x) e (omega arith), d)
+      rw (sub-pos (e + x) e (omega arith), d)
 
   in-at : (L R : Bool) (j : ℕ) → j < w → getD src (srcO + j) 0 ≡ column L R (e + j)
   in-at L R j h = rw (← from-first L R j, lt-ltb j w h)

@@ -13,11 +13,11 @@ use borrow.Author.Tests.{lt-ltb, le-ltb, eq-eqb, ne-eqb}
 use Rattle.definition.specs.Rows.{tab}
 use Rattle.definition.specs.Padding.{rowAt, padded, mixed, evenOnly}
 use Rattle.definition.specs.Refusals.{beside}
-use Rattle.laws.proofs.Ints.{never}
+use Rattle.laws.proofs.Ints.{never, sub-pos, sub-neg}
 use Rattle.laws.proofs.Lists.{tab-cong, length-tab, getD-tab, sets-run, sets-before, sets-behind, sets-in}
 use Rattle.padding.specs.Padded.{lowerAt, source}
 use Rattle.padding.specs.Steps.{columns, repeated}
-use Rattle.padding.proofs.Around.{same-byte, less, more, row-column}
+use Rattle.padding.proofs.Around.{same-byte, row-column}
 use Rattle.padding.proofs.Filled.{unmasked}
 use Rattle.padding.proofs.Columns.{lower-even}
 
@@ -56,11 +56,11 @@ next a b = +ℤ-assoc a b (pos 1) ∙ ap (λ (z : ℤ). a +ℤ z) (+ℤ-comm b (
 padded-lent : (L R : Bool) (w last : ℕ) (f : ℤ → ℕ) (p : ℕ) → (p < 4 → L ≡ true) → (4 + w ≤ p → R ≡ true) → padded L R w last f (pos p -ℤ pos 4) ≡ f (pos p -ℤ pos 4)
 padded-lent L R w last f p l r =
     elim (decLt p 4) [
-      | yes h ↦ rw (less p 4 h, l h)
+      | yes h ↦ rw (sub-neg p 4 h, l h)
       | no h ↦
           elim (decLt (p - 4) w) [
-            | yes g ↦ rw (more p 4 (omega arith), lt-ltb (p - 4) w g)
-            | no g ↦ rw (more p 4 (omega arith), le-ltb (p - 4) w (omega arith), r (omega arith))
+            | yes g ↦ rw (sub-pos p 4 (omega arith), lt-ltb (p - 4) w g)
+            | no g ↦ rw (sub-pos p 4 (omega arith), le-ltb (p - 4) w (omega arith), r (omega arith))
           ]
     ]
 
@@ -161,7 +161,7 @@ module _ (dst src : List ℕ) (o srcO stride w last v k left right : ℕ) (L R :
       same-filled (evenOnly v k) i i (getD (fromFirst m) (o - 4 + i) 0) (getD dst (o - 4 + i) 0) (getD (fromFirst m) o 0) (padded L R w last sample (pos i -ℤ pos 4))
       (λ _. refl)
       (sets-before ys dst o (o - 4 + i) (omega arith))
-      (λ _. z ∙ rw (less i 4 h, off)))) ∙
+      (λ _. z ∙ rw (sub-neg i 4 h, off)))) ∙
       sets-swap ys (tab 4 byte) dst (o - 4) o (omega arith) ∙
       two-runs dst (o - 4) o 4 m byte (omega arith)
 
@@ -170,7 +170,7 @@ module _ (dst src : List ℕ) (o srcO stride w last v k left right : ℕ) (L R :
   last-byte =
       let d : 4 + last - 4 ≡ last = omega arith in
       unmasked (evenOnly v k) (4 + last) (getD dst (o - 4 + (4 + last)) 0) (padded L R w last sample (pos (4 + last) -ℤ pos 4)) (λ e. let q = evens e in omega arith) ∙
-      rw (more (4 + last) 4 (omega arith), d, lt-ltb last w inLast)
+      rw (sub-pos (4 + last) 4 (omega arith), d, lt-ltb last w inLast)
 
   abbrev upTo : ℕ → List ℕ
   upTo n = sets dst (o - 4) (tab n byte)
@@ -189,7 +189,7 @@ module _ (dst src : List ℕ) (o srcO stride w last v k left right : ℕ) (L R :
       same-filled (evenOnly v k) i (4 + w + i) (getD (upTo (4 + w)) (o + w + i) 0) (getD dst (o - 4 + (4 + w + i)) 0) (getD (upTo (4 + w)) (o + last) 0) (padded L R w last sample (pos (4 + w + i) -ℤ pos 4))
       (λ ev. let q = evens ev in omega arith)
       (sets-behind (tab (4 + w) byte) dst (o - 4) (o + w + i) (omega arith) ∙ same-byte dst (o + w + i) (o - 4 + (4 + w + i)) (omega arith))
-      (λ _. z ∙ rw (more (4 + w + i) 4 (omega arith), e, le-ltb (w + i) w (omega arith), off)))) ∙
+      (λ _. z ∙ rw (sub-pos (4 + w + i) 4 (omega arith), e, le-ltb (w + i) w (omega arith), off)))) ∙
       two-runs dst (o - 4) (o + w) (4 + w) 4 byte (omega arith)
 
   -- both borders, repeated or lent

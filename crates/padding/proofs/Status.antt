@@ -1,14 +1,14 @@
--- What a status of 0 says of the numbers of a call, and what is left where a call is refused.
+-- What a status of 0 says of the numbers of a call.
 use mathlib.Core.Path.{_≡_, refl, sym, ap}
 use mathlib.Core.Bool.{Bool, true, false, not, _&&_, _||_, and-true, and-false}
 use mathlib.Core.List.{List}
-use Prim.Native.Nat.{ℕ, zero, suc, _+_, _-_, _%_}
+use Prim.Native.Nat.{ℕ, _+_, _-_, _%_}
 use native.Mathlib.Decide.{decLe}
 use native.Mathlib.Omega.{arith}
 use lib.Dec.{leb, ltb, eqb}
 use lib.IntN.{ℤ, pos, negsuc, _-ℤ_}
 use borrow.Author.Tests.{le-leb, lt-leb, leb-true, ltb-false, eqb-true}
-use Rattle.definition.specs.Rows.{outsideUnless, unlessRefused}
+use Rattle.definition.specs.Rows.{outsideUnless}
 use Rattle.definition.specs.Padding.{hasLeft, hasRight, rowAt, after, padded}
 use Rattle.definition.specs.Refusals.{beside, badSampling}
 use Rattle.laws.proofs.Passes.{both, inside, first-clear, not-both}
@@ -16,10 +16,6 @@ use Rattle.laws.proofs.Lists.{tab-cong}
 use Rattle.laws.proofs.Ints.{never}
 use Rattle.padding.specs.Padded.{targetInside, backupStatus, lpfStatus, lumaStatus, paddedRow, lowerAt}
 use Rattle.padding.specs.Steps.{Inside, InsideLuma}
-
-pub refused : (s : ℕ) (old written : List ℕ) → (s ≡ 0 → ⊥) → old ≡ unlessRefused s old written
-refused zero old written n = absurd (n refl)
-refused (suc s) old written n = refl
 
 implied : (b c : Bool) → (not b || c) ≡ true → b ≡ true → c ≡ true
 implied true c e h = e

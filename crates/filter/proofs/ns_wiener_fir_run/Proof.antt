@@ -10,7 +10,8 @@ use Rattle.filter.specs.Runs.{runStatus, coefficients}
 use Rattle.filter.specs.Windows.{OwnInside}
 use Rattle.filter.proofs.Statuses.{run-inside, eight-inside}
 use Rattle.filter.proofs.Groups.{as-long}
-use Rattle.filter.proofs.Writes.{Writing, none-yet, same, one-turn, turn-room, written, done, refused}
+use Rattle.laws.proofs.Passes.{refused}
+use Rattle.filter.proofs.Writes.{Writing, none-yet, same, one-turn, turn-room, written, done}
 use Rattle.filter.proofs.ns_wiener_fir_run.Statement.{statement}
 use Rattle.filter.proofs.ns_wiener_fir_run.Tie as tie
 

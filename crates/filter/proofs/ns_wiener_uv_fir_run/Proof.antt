@@ -10,7 +10,8 @@ use Rattle.filter.specs.Gathered.{Gathered, compactRun}
 use Rattle.filter.proofs.Gathering.{gathered-run}
 use Rattle.filter.proofs.Groups.{as-long}
 use Rattle.filter.proofs.Statuses.{UvInside, uv-inside}
-use Rattle.filter.proofs.Writes.{done, refused}
+use Rattle.laws.proofs.Passes.{refused}
+use Rattle.filter.proofs.Writes.{done}
 use Rattle.filter.proofs.ns_wiener_uv_fir_run.Statement.{statement}
 use Rattle.filter.proofs.ns_wiener_uv_fir_run.Tie as tie
 
