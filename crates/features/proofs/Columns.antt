@@ -6,7 +6,7 @@ use native.Mathlib.Omega.{arith}
 use lib.IntN.{ℤ, pos, natAbs, _+ℤ_, _-ℤ_, negℤ, +ℤ-assoc}
 use lib.ListN.{getD}
 use Rattle.definition.specs.Numbers.{sumN}
-use Rattle.definition.specs.Rows.{lumaFlat}
+use Rattle.definition.specs.Rows.{rowBytes, lumaFlat}
 use Rattle.definition.specs.ClassIndex.{bend, feature}
 use Rattle.features.specs.Features.{featureAt, columnBend, columnSum}
 use Rattle.laws.proofs.Ints.{sub-cases, sub-pos, before-pos}
@@ -37,10 +37,10 @@ module _ (rows indices : List ℕ) (d : ℤ) (bx i j : ℕ) where
   column = further (6 + 4 * bx) (pos j) (negℤ (pos 1)) (6 + 4 * bx + j) (5 + 4 * bx + j) refl (one-less (6 + 4 * bx + j) (5 + 4 * bx + j) (omega arith))
 
   flat : (dy dx : ℤ) (r c : ℕ) → pos 4 +ℤ dy ≡ pos r → pos (6 + 4 * bx) +ℤ dx ≡ pos c →
-      getD rows (76 * getD indices r 0 + c) 0 ≡ lumaFlat rows indices (6 + 4 * bx) dy dx
+      getD rows (rowBytes * getD indices r 0 + c) 0 ≡ lumaFlat rows indices (6 + 4 * bx) dy dx
   flat dy dx r c er ec =
       ap (λ (m : ℕ). getD rows m 0) (omega arith) ∙
-      (λ k. getD rows (0 + 76 * getD indices (natAbs (sym er k)) 0 + natAbs (sym ec k)) 0)
+      (λ k. getD rows (0 + rowBytes * getD indices (natAbs (sym er k)) 0 + natAbs (sym ec k)) 0)
 
   pub bend-is : (a z : ℕ) → pos a ≡ pos (5 + 4 * bx + j) +ℤ d → pos z ≡ pos (5 + 4 * bx + j) -ℤ d →
       columnBend rows indices a (5 + 4 * bx + j) z i ≡ bend (lumaFlat rows indices (6 + 4 * bx)) d (pos i -ℤ pos 1) (pos j -ℤ pos 1)

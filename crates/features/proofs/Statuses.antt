@@ -7,24 +7,27 @@ use lib.Dec.{leb}
 use lib.IntN.{ℤ}
 use lib.ListN.{length, getD, replicate}
 use borrow.Author.Tests.{leb-true, le-leb}
-use Rattle.definition.specs.Refusals.{indicesUpTo}
+use Rattle.definition.specs.Limits.{blockColumnLimit}
+use Rattle.definition.specs.Rows.{indexCount}
+use Rattle.definition.specs.ClassIndex.{lastColumn}
+use Rattle.definition.specs.Refusals.{rowsSize, indicesUpTo}
 use Rattle.laws.proofs.Passes.{both, pass-at, inside}
 use Rattle.features.specs.Features.{rowsStatus, blockStatus, featureRow, featureSums, served, Rows}
 
 -- the rows lie inside, and so do the blocks
-pub rows-open : (rows indices : List ℕ) (fine : Bool) → rowsStatus (length rows) indices fine ≡ 0 → Rows rows indices × (fine ≡ true)
+pub rows-inside : (rows indices : List ℕ) (fine : Bool) → rowsStatus (length rows) indices fine ≡ 0 → Rows rows indices × (fine ≡ true)
 unfolding rowsStatus
-rows-open rows indices fine e =
-    let p = both (leb 760 (length rows) && indicesUpTo 9 indices) fine (inside (leb 760 (length rows) && indicesUpTo 9 indices && fine) e) in
-    let q = both (leb 760 (length rows)) (indicesUpTo 9 indices) (p .0) in
-    (record { size = leb-true 760 (length rows) (q .0); low = λ j h. leb-true (getD indices j 0) 9 (pass-at (λ i. leb i 9) indices 10 j h (q .1)) }, p .1)
+rows-inside rows indices fine e =
+    let p = both (leb rowsSize (length rows) && indicesUpTo 9 indices) fine (inside (leb rowsSize (length rows) && indicesUpTo 9 indices && fine) e) in
+    let q = both (leb rowsSize (length rows)) (indicesUpTo 9 indices) (p .0) in
+    (record { size = leb-true rowsSize (length rows) (q .0); low = λ j h. leb-true (getD indices j 0) 9 (pass-at (λ i. leb i 9) indices indexCount j h (q .1)) }, p .1)
 
-pub block-inside : (rows : ℕ) (indices : List ℕ) (bx : ℕ) → 760 ≤ rows → indicesUpTo 9 indices ≡ true → bx ≤ 15 → blockStatus rows indices bx ≡ 0
+pub block-inside : (rows : ℕ) (indices : List ℕ) (bx : ℕ) → rowsSize ≤ rows → indicesUpTo 9 indices ≡ true → bx ≤ lastColumn → blockStatus rows indices bx ≡ 0
 unfolding rowsStatus
-block-inside rows indices bx h e k = rw (le-leb 760 rows h, e, le-leb bx 15 k)
+block-inside rows indices bx h e k = rw (le-leb rowsSize rows h, e, le-leb bx lastColumn k)
 
 -- a refused call answers zeros
-pub none-served : (status n : ℕ) (f : ℕ → ℕ) → (status ≡ 0 → ⊥) → replicate 16 0 ≡ featureRow (served status n) f
+pub none-served : (status n : ℕ) (f : ℕ → ℕ) → (status ≡ 0 → ⊥) → replicate blockColumnLimit 0 ≡ featureRow (served status n) f
 none-served zero n f h = absurd (h refl)
 none-served (suc status) n f h = refl
 

@@ -5,11 +5,24 @@ ghost use Prim.Native.Nat.{ℕ, _+_, _*_, _<_, _≤_};
 ghost use lib.IntN.{pos, negsuc, natAbs, _+ℤ_, _-ℤ_};
 ghost use lib.ListN.{length, getD};
 ghost use Rattle.definition.specs.Numbers.{sumN};
-ghost use Rattle.features.specs.Features.{rowsStatus, rowStatus, blockStatus, featureRow, featureAt, featureSums, served, columnBend, columnSum, Rows};
+ghost use Rattle.definition.specs.Limits.{blockColumnLimit};
+ghost use Rattle.definition.specs.Rows.{rowBytes, indexCount};
+ghost use Rattle.definition.specs.ClassIndex.{lastColumn};
+ghost use Rattle.definition.specs.Refusals.{rowsSize};
+ghost use Rattle.features.specs.Features.{rowsStatus, rowStatus, blockStatus, featureRow, featureAt, featureSums, served, columnBend, columnSum, bendLimit, columnLimit, columnCount, Rows};
+use definition::BLOCK_COLUMN_LIMIT;
+use definition::INDEX_COUNT;
+use definition::LAST_COLUMN;
+use definition::ROW_BYTES;
+use definition::ROWS_SIZE;
+use definition::WIDTH_LIMIT;
+
+// The columns that the blocks of the widest row look at are four more than its samples: rounded up to a multiple of eight.
+const COLUMN_COUNT: usize = WIDTH_LIMIT + 8;
 
 // | up - 2 mid + down |
 fn bend_of(up: u8, mid: u8, down: u8) -> u16
-    ensures { λ r. ⌜ (r ≡ natAbs (pos up -ℤ pos (2 * mid) +ℤ pos down)) × (r ≤ 510) ⌝ }
+    ensures { λ r. ⌜ (r ≡ natAbs (pos up -ℤ pos (2 * mid) +ℤ pos down)) × (r ≤ bendLimit) ⌝ }
 {
     let sides = up as u16 + down as u16;
     let twice = 2 * mid as u16;
@@ -20,19 +33,26 @@ fn bend_of(up: u8, mid: u8, down: u8) -> u16
 }
 
 // The byte in column col of the row that index k leads to.
-fn place(indices: &[usize; 10], k: usize, col: usize) -> usize
-    requires { ⌜ (k < 10) × (col ≤ 75) ⌝ }
-    requires { ⌜ ((j : ℕ) → j < 10 → getD (now indices) j 0 ≤ 9) ⌝ }
-    ensures { λ r. ⌜ (r ≡ 76 * getD (now (indices .entry)) k 0 + col) × (r ≤ 684 + col) ⌝ }
+fn place(indices: &[usize; INDEX_COUNT], k: usize, col: usize) -> usize
+    requires { ⌜ (k < indexCount) × (col < rowBytes) ⌝ }
+    requires { ⌜ ((j : ℕ) → j < indexCount → getD (now indices) j 0 ≤ 9) ⌝ }
+    ensures { λ r. ⌜ (r ≡ rowBytes * getD (now (indices .entry)) k 0 + col) × (r < rowsSize) ⌝ }
 {
-    76 * indices[k] + col
+    ROW_BYTES * indices[k] + col
 }
 
 // The bend around row i of six, counted from one before the block row's first: from column a of the row above it, column m of its own, and column z of the row below.
-fn bend_at(rows: &[u8], indices: &[usize; 10], i: usize, a: usize, m: usize, z: usize) -> u16
+fn bend_at(
+    rows: &[u8],
+    indices: &[usize; INDEX_COUNT],
+    i: usize,
+    a: usize,
+    m: usize,
+    z: usize,
+) -> u16
     requires { ⌜ Rows (now rows) (now indices) ⌝ }
-    requires { ⌜ (i < 6) × (a ≤ 75) × (m ≤ 75) × (z ≤ 75) ⌝ }
-    ensures { λ r. ⌜ (r ≡ columnBend (now (rows .entry)) (now (indices .entry)) a m z i) × (r ≤ 510) ⌝ }
+    requires { ⌜ (i < 6) × (a < rowBytes) × (m < rowBytes) × (z < rowBytes) ⌝ }
+    ensures { λ r. ⌜ (r ≡ columnBend (now (rows .entry)) (now (indices .entry)) a m z i) × (r ≤ bendLimit) ⌝ }
 {
     let up = place(indices, i + 2, a);
     let mid = place(indices, i + 3, m);
@@ -41,10 +61,10 @@ fn bend_at(rows: &[u8], indices: &[usize; 10], i: usize, a: usize, m: usize, z: 
 }
 
 // The bends of all six rows. They are written out, so that the rows' places stay in locals.
-fn column_sum(rows: &[u8], indices: &[usize; 10], a: usize, m: usize, z: usize) -> u16
+fn column_sum(rows: &[u8], indices: &[usize; INDEX_COUNT], a: usize, m: usize, z: usize) -> u16
     requires { ⌜ Rows (now rows) (now indices) ⌝ }
-    requires { ⌜ (a ≤ 75) × (m ≤ 75) × (z ≤ 75) ⌝ }
-    ensures { λ r. ⌜ (r ≡ columnSum (now (rows .entry)) (now (indices .entry)) a m z) × (r ≤ 3060) ⌝ }
+    requires { ⌜ (a < rowBytes) × (m < rowBytes) × (z < rowBytes) ⌝ }
+    ensures { λ r. ⌜ (r ≡ columnSum (now (rows .entry)) (now (indices .entry)) a m z) × (r ≤ columnLimit) ⌝ }
 {
     let s0 = bend_at(rows, indices, 0, a, m, z);
     let s1 = bend_at(rows, indices, 1, a, m, z);
@@ -58,18 +78,18 @@ fn column_sum(rows: &[u8], indices: &[usize; 10], a: usize, m: usize, z: usize) 
 // The sums of columns m to n - 1, counted from byte 3 of the rows, in one direction: `up` is taken from byte a on and `down` from byte z on.
 fn column_sums(
     rows: &[u8],
-    indices: &[usize; 10],
+    indices: &[usize; INDEX_COUNT],
     a: usize,
     z: usize,
     m: usize,
     n: usize,
-) -> [u16; 72]
+) -> [u16; COLUMN_COUNT]
     requires { ⌜ Rows (now rows) (now indices) ⌝ }
-    requires { ⌜ (a ≤ 4) × (z ≤ 4) × (m ≤ n) × (n ≤ 72) ⌝ }
-    ensures { λ r. ⌜ ((k : ℕ) → m ≤ k → k < n → (getD r k 0 ≡ columnSum (now (rows .entry)) (now (indices .entry)) (a + k) (3 + k) (z + k)) × (getD r k 0 ≤ 3060)) ⌝ }
+    requires { ⌜ (a ≤ 4) × (z ≤ 4) × (m ≤ n) × (n ≤ columnCount) ⌝ }
+    ensures { λ r. ⌜ ((k : ℕ) → m ≤ k → k < n → (getD r k 0 ≡ columnSum (now (rows .entry)) (now (indices .entry)) (a + k) (3 + k) (z + k)) × (getD r k 0 ≤ columnLimit)) ⌝ }
 {
     let ix = *indices;
-    let mut out = [0u16; 72];
+    let mut out = [0u16; COLUMN_COUNT];
     let mut k = m;
     while k < n {
         out[k] = column_sum(rows, &ix, a + k, 3 + k, z + k);
@@ -79,8 +99,8 @@ fn column_sums(
 }
 
 // The sum of the six columns of block bx: from one before its first column, which is byte 6 + 4 bx.
-fn six(columns: &[u16; 72], bx: usize) -> u16
-    requires { ⌜ (bx ≤ 15) × ((j : ℕ) → j < 6 → getD (now columns) (2 + 4 * bx + j) 0 ≤ 3060) ⌝ }
+fn six(columns: &[u16; COLUMN_COUNT], bx: usize) -> u16
+    requires { ⌜ (bx ≤ lastColumn) × ((j : ℕ) → j < 6 → getD (now columns) (2 + 4 * bx + j) 0 ≤ columnLimit) ⌝ }
     ensures { λ r. ⌜ r ≡ sumN 6 (λ j. getD (now (columns .entry)) (2 + 4 * bx + j) 0) ⌝ }
 {
     let first = 2 + 4 * bx;
@@ -94,13 +114,19 @@ fn six(columns: &[u16; 72], bx: usize) -> u16
 }
 
 // One feature of n blocks. The columns are a multiple of eight, so that none is left over.
-fn feature_row(rows: &[u8], indices: &[usize; 10], a: usize, z: usize, n: usize) -> [u16; 16]
+fn feature_row(
+    rows: &[u8],
+    indices: &[usize; INDEX_COUNT],
+    a: usize,
+    z: usize,
+    n: usize,
+) -> [u16; BLOCK_COLUMN_LIMIT]
     requires { ⌜ Rows (now rows) (now indices) ⌝ }
-    requires { ⌜ (a ≤ 4) × (z ≤ 4) × (a + z ≡ 6) × (n ≤ 16) ⌝ }
+    requires { ⌜ (a ≤ 4) × (z ≤ 4) × (a + z ≡ 6) × (n ≤ blockColumnLimit) ⌝ }
     ensures { λ r. ⌜ r ≡ featureRow n (featureAt (now (rows .entry)) (now (indices .entry)) (pos a -ℤ pos 3)) ⌝ }
 {
     let columns = column_sums(rows, indices, a, z, 0, (4 * n + 11) / 8 * 8);
-    let mut out = [0u16; 16];
+    let mut out = [0u16; BLOCK_COLUMN_LIMIT];
     let mut bx = 0;
     while bx < n {
         out[bx] = six(&columns, bx);
@@ -110,9 +136,9 @@ fn feature_row(rows: &[u8], indices: &[usize; 10], a: usize, z: usize, n: usize)
 }
 
 // One feature of the block in column bx. Eight columns are summed, as they are taken at a time; six are the block's.
-fn feature(rows: &[u8], indices: &[usize; 10], a: usize, z: usize, bx: usize) -> u16
+fn feature(rows: &[u8], indices: &[usize; INDEX_COUNT], a: usize, z: usize, bx: usize) -> u16
     requires { ⌜ Rows (now rows) (now indices) ⌝ }
-    requires { ⌜ (a ≤ 4) × (z ≤ 4) × (a + z ≡ 6) × (bx ≤ 15) ⌝ }
+    requires { ⌜ (a ≤ 4) × (z ≤ 4) × (a + z ≡ 6) × (bx ≤ lastColumn) ⌝ }
     ensures { λ r. ⌜ r ≡ featureAt (now (rows .entry)) (now (indices .entry)) (pos a -ℤ pos 3) bx ⌝ }
 {
     let columns = column_sums(rows, indices, a, z, 2 + 4 * bx, 10 + 4 * bx);
@@ -120,10 +146,10 @@ fn feature(rows: &[u8], indices: &[usize; 10], a: usize, z: usize, bx: usize) ->
 }
 
 // `inside`: that the blocks lie inside as well.
-fn rows_status(rows: usize, indices: &[usize; 10], inside: bool) -> u8
+fn rows_status(rows: usize, indices: &[usize; INDEX_COUNT], inside: bool) -> u8
     ensures { λ r. ⌜ r ≡ rowsStatus rows (now (indices .entry)) inside ⌝ }
 {
-    if rows < 760 {
+    if rows < ROWS_SIZE {
         return 5;
     }
     if !bounds::indices_up_to(indices, 9) {
@@ -139,11 +165,11 @@ pub struct Features {
 }
 
 // The three features of the block in column bx: vertical, then the two diagonals.
-pub fn pcw_features(rows: &[u8], indices: &[usize; 10], bx: usize) -> Features
+pub fn pcw_features(rows: &[u8], indices: &[usize; INDEX_COUNT], bx: usize) -> Features
     ensures { λ r. ⌜ r .status ≡ blockStatus (length (now (rows .entry))) (now (indices .entry)) bx ⌝ }
     ensures { λ r. ⌜ r .sums ≡ featureSums (r .status) (λ d. featureAt (now (rows .entry)) (now (indices .entry)) d bx) ⌝ }
 {
-    let status = rows_status(rows.len(), indices, bx <= 15);
+    let status = rows_status(rows.len(), indices, bx <= LAST_COLUMN);
     if status != 0 {
         return Features {
             status,
@@ -161,25 +187,25 @@ pub fn pcw_features(rows: &[u8], indices: &[usize; 10], bx: usize) -> Features
 
 pub struct RowFeatures {
     pub status: u8,
-    pub vertical: [u16; 16],
-    pub falling: [u16; 16],
-    pub rising: [u16; 16],
+    pub vertical: [u16; BLOCK_COLUMN_LIMIT],
+    pub falling: [u16; BLOCK_COLUMN_LIMIT],
+    pub rising: [u16; BLOCK_COLUMN_LIMIT],
 }
 
 // The three features of the first n blocks of a block row.
-pub fn row_features(rows: &[u8], indices: &[usize; 10], n: usize) -> RowFeatures
+pub fn row_features(rows: &[u8], indices: &[usize; INDEX_COUNT], n: usize) -> RowFeatures
     ensures { λ r. ⌜ r .status ≡ rowStatus (length (now (rows .entry))) (now (indices .entry)) n ⌝ }
     ensures { λ r. ⌜ r .vertical ≡ featureRow (served (r .status) n) (featureAt (now (rows .entry)) (now (indices .entry)) (pos 0)) ⌝ }
     ensures { λ r. ⌜ r .falling ≡ featureRow (served (r .status) n) (featureAt (now (rows .entry)) (now (indices .entry)) (pos 1)) ⌝ }
     ensures { λ r. ⌜ r .rising ≡ featureRow (served (r .status) n) (featureAt (now (rows .entry)) (now (indices .entry)) (negsuc 0)) ⌝ }
 {
-    let status = rows_status(rows.len(), indices, n <= 16);
+    let status = rows_status(rows.len(), indices, n <= BLOCK_COLUMN_LIMIT);
     if status != 0 {
         return RowFeatures {
             status,
-            vertical: [0u16; 16],
-            falling: [0u16; 16],
-            rising: [0u16; 16],
+            vertical: [0u16; BLOCK_COLUMN_LIMIT],
+            falling: [0u16; BLOCK_COLUMN_LIMIT],
+            rising: [0u16; BLOCK_COLUMN_LIMIT],
         };
     }
     RowFeatures {

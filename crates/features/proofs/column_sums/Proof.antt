@@ -5,16 +5,16 @@ use native.Mathlib.Decide.{ℕ-discrete}
 use native.Mathlib.Omega.{arith}
 use lib.ListN.{length, getD, length-set}
 use lib.Seq.{getD-set-same, getD-set-other}
-use Rattle.features.specs.Features.{columnSum}
+use Rattle.features.specs.Features.{columnSum, columnCount, columnLimit}
 use Rattle.features.proofs.column_sums.Statement.{statement}
 use Rattle.features.proofs.column_sums.Tie as tie
 
 abbrev Inv-loop : tie.InvT-loop
 Inv-loop rows indices a z m n ix out₀ k₀ out k =
-    (length out ≡ 72) ×
+    (length out ≡ columnCount) ×
     (m ≤ k) ×
     (k ≤ n) ×
-    ((j : ℕ) → m ≤ j → j < k → (getD out j 0 ≡ columnSum rows indices (a + j) (3 + j) (z + j)) × (getD out j 0 ≤ 3060))
+    ((j : ℕ) → m ≤ j → j < k → (getD out j 0 ≡ columnSum rows indices (a + j) (3 + j) (z + j)) × (getD out j 0 ≤ columnLimit))
 
 abbrev μ-loop : tie.MeasureT-loop
 μ-loop rows indices a z m n ix out₀ k₀ out k = n - k

@@ -5,15 +5,16 @@ use native.Mathlib.Nat.{zero-add}
 use native.Mathlib.Omega.{arith}
 use lib.IntN.{pos, _-ℤ_}
 use lib.ListN.{length, getD, length-set, replicate}
+use Rattle.definition.specs.Limits.{blockColumnLimit}
 use Rattle.laws.proofs.Lists.{sets-more}
-use Rattle.features.specs.Features.{featureAt, featureRow, columnSum}
+use Rattle.features.specs.Features.{featureAt, featureRow, columnSum, columnLimit}
 use Rattle.features.proofs.Columns.{feature-is}
 use Rattle.features.proofs.feature_row.Statement.{statement}
 use Rattle.features.proofs.feature_row.Tie as tie
 
 abbrev Inv-loop : tie.InvT-loop
 Inv-loop rows indices a z n columns out₀ bx₀ out bx =
-    (bx ≤ n) × (length out ≡ 16) × (out ≡ featureRow bx (featureAt rows indices (pos a -ℤ pos 3)))
+    (bx ≤ n) × (length out ≡ blockColumnLimit) × (out ≡ featureRow bx (featureAt rows indices (pos a -ℤ pos 3)))
 
 abbrev μ-loop : tie.MeasureT-loop
 μ-loop rows indices a z n columns out₀ bx₀ out bx = n - bx
@@ -39,7 +40,7 @@ module _ (c : tie.In-loop Inv-loop μ-loop) where
       let s = c .before .before in
       let a = s .before .before .args in
       let k = 2 + 4 * c .before .loop .bx + j in
-      (getD (s .column-sums .result) k 0 ≡ columnSum (a .rows .now) (a .indices .now) (a .a + k) (3 + k) (a .z + k)) × (getD (s .column-sums .result) k 0 ≤ 3060)
+      (getD (s .column-sums .result) k 0 ≡ columnSum (a .rows .now) (a .indices .now) (a .a + k) (3 + k) (a .z + k)) × (getD (s .column-sums .result) k 0 ≤ columnLimit)
   summed j h = c .before .before .column-sums .ensures (2 + 4 * c .before .loop .bx + j) (omega arith) (omega arith)
 
 six-requires : tie.Need-six-requires Inv-loop μ-loop
@@ -63,7 +64,7 @@ loop-again c =
     let a = c .before .before .before .before .before .before .args in
     let f = featureAt (a .rows .now) (a .indices .now) (pos (a .a) -ℤ pos 3) in
     let e = c .six .ensures ∙ feature-is (a .rows .now) (a .indices .now) (c .before .before .before .before .column-sums .result) (a .a) (a .z) (l .bx) (omega arith) (λ j h. summed (c .before .before) j h .0) in
-    (omega arith, simp length-set (l .inv .1), rw (l .inv .2, e) (rw (zero-add (l .bx)) at (sets-more (l .bx) (replicate 16 0) 0 f)))
+    (omega arith, simp length-set (l .inv .1), rw (l .inv .2, e) (rw (zero-add (l .bx)) at (sets-more (l .bx) (replicate blockColumnLimit 0) 0 f)))
 
 returns : tie.Need-returns Inv-loop μ-loop
 returns c =

@@ -5,8 +5,9 @@ use Prim.Native.Nat.{_≤_}
 use native.Mathlib.Omega.{arith}
 use borrow.Author.Needs.{needs}
 use borrow.Author.Tests.{leb-true}
+use Rattle.definition.specs.ClassIndex.{lastColumn}
 use Rattle.features.specs.Features.{Rows}
-use Rattle.features.proofs.Statuses.{rows-open, no-sums}
+use Rattle.features.proofs.Statuses.{rows-inside, no-sums}
 use Rattle.features.proofs.pcw_features.Statement.{statement}
 use Rattle.features.proofs.pcw_features.Tie as tie
 
@@ -19,11 +20,11 @@ returns c = (c .before .rows-status .ensures, no-sums _ _ (c .if1 .taken))
 -- what is lent lies inside
 inside : (c : tie.Else1) →
     let a = c .before .before .before .args in
-    Rows (a .rows .now) (a .indices .now) × (a .bx ≤ 15)
+    Rows (a .rows .now) (a .indices .now) × (a .bx ≤ lastColumn)
 inside c =
     let a = c .before .before .before .args in
-    let p = rows-open (a .rows .now) (a .indices .now) _ (sym (c .before .rows-status .ensures) ∙ c .if1 .left) in
-    (p .0, leb-true (a .bx) 15 (p .1))
+    let p = rows-inside (a .rows .now) (a .indices .now) _ (sym (c .before .rows-status .ensures) ∙ c .if1 .left) in
+    (p .0, leb-true (a .bx) lastColumn (p .1))
 
 feature-requires : tie.Need-feature-requires
 feature-requires c κs = (inside c .0, (omega arith, omega arith, omega arith, inside c .1))

@@ -4,8 +4,9 @@ use Prim.Native.Nat.{_≤_}
 use native.Mathlib.Omega.{arith}
 use borrow.Author.Needs.{needs}
 use borrow.Author.Tests.{leb-true}
+use Rattle.definition.specs.Limits.{blockColumnLimit}
 use Rattle.features.specs.Features.{Rows}
-use Rattle.features.proofs.Statuses.{rows-open, none-served}
+use Rattle.features.proofs.Statuses.{rows-inside, none-served}
 use Rattle.features.proofs.row_features.Statement.{statement}
 use Rattle.features.proofs.row_features.Tie as tie
 
@@ -20,11 +21,11 @@ returns c =
 -- what is lent lies inside
 inside : (c : tie.Else1) →
     let a = c .before .before .before .args in
-    Rows (a .rows .now) (a .indices .now) × (a .n ≤ 16)
+    Rows (a .rows .now) (a .indices .now) × (a .n ≤ blockColumnLimit)
 inside c =
     let a = c .before .before .before .args in
-    let p = rows-open (a .rows .now) (a .indices .now) _ (sym (c .before .rows-status .ensures) ∙ c .if1 .left) in
-    (p .0, leb-true (a .n) 16 (p .1))
+    let p = rows-inside (a .rows .now) (a .indices .now) _ (sym (c .before .rows-status .ensures) ∙ c .if1 .left) in
+    (p .0, leb-true (a .n) blockColumnLimit (p .1))
 
 feature-row-requires : tie.Need-feature-row-requires
 feature-row-requires c κs = (inside c .0, (omega arith, omega arith, omega arith, inside c .1))

@@ -5,13 +5,14 @@ use native.Mathlib.Omega.{arith}
 use lib.ListN.{getD}
 use Rattle.definition.specs.Numbers.{sumN}
 use Rattle.laws.proofs.Sums.{sumN-suc}
+use Rattle.features.specs.Features.{columnLimit}
 use Rattle.features.proofs.Sums.{sum-none}
 use Rattle.features.proofs.six.Statement.{statement}
 use Rattle.features.proofs.six.Tie as tie
 
 abbrev Inv-loop : tie.InvT-loop
 Inv-loop columns bx first s₀ j₀ s j =
-    (j ≤ 6) × (s ≤ j * 3060) × (s ≡ sumN j (λ i. getD columns (2 + 4 * bx + i) 0))
+    (j ≤ 6) × (s ≤ j * columnLimit) × (s ≡ sumN j (λ i. getD columns (2 + 4 * bx + i) 0))
 
 abbrev μ-loop : tie.MeasureT-loop
 μ-loop columns bx first s₀ j₀ s j = 6 - j
@@ -37,7 +38,7 @@ element-copy-out-s c = omega arith
 -- the column that a turn adds
 low : (c : tie.After-s Inv-loop μ-loop) →
     let l = c .before .before in
-    getD (l .before .args .columns .now) (2 + 4 * l .before .args .bx + l .loop .j) 0 ≤ 3060
+    getD (l .before .args .columns .now) (2 + 4 * l .before .args .bx + l .loop .j) 0 ≤ columnLimit
 low c = c .before .before .before .pre .1 (c .before .before .loop .j) (c .before .loop-test .taken)
 
 add-s-2 : tie.Need-add-s-2 Inv-loop μ-loop
