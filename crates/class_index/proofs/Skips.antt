@@ -6,6 +6,7 @@ use native.Mathlib.Omega.{arith}
 use mir.Syntax.{w64}
 use mir.Val.{Fits}
 use Rattle.definition.specs.Numbers.{sumN}
+use Rattle.definition.specs.Limits.{blockRowLimit}
 use Rattle.definition.specs.ClassIndex.{skipSum, skipShare}
 
 sum-three : (f : ℕ → ℕ) → sumN 3 f ≡ f 0 + f 1 + f 2
@@ -26,10 +27,10 @@ module _ (noskip : List ℕ) (bh bx by : ℕ) where
 pub clipped-row : (at last r : ℕ) → r ≡ min at last → r ≤ last
 clipped-row at last r e = omega arith
 
-pub doubled : {r : ℕ} → r ≤ 15 → Fits w64 (r * 2)
+pub doubled : {r : ℕ} → r ≤ blockRowLimit → Fits w64 (r * 2)
 doubled h = omega arith
 
-pub last-small : (bh : ℕ) → bh ≤ 16 → bh - 1 ≤ 15
+pub last-small : (bh : ℕ) → bh ≤ blockRowLimit → bh - 1 ≤ blockRowLimit
 last-small bh h = omega arith
 
 pub last-in : (bh by len r : ℕ) → by < bh → bh ≤ len → r ≤ bh - 1 → r < len

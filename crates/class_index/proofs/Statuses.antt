@@ -6,62 +6,64 @@ use Prim.Native.Nat.{ℕ, zero, suc, _≤_, _<_}
 use native.Mathlib.Omega.{arith}
 use lib.Dec.{ltb, leb, eqb}
 use borrow.Author.Tests.{ltb-false, leb-false, not-false}
-use Rattle.definition.specs.Refusals.{indicesUpTo, classStatus}
+use Rattle.definition.specs.Limits.{blockRowLimit}
+use Rattle.definition.specs.ClassIndex.{lastColumn}
+use Rattle.definition.specs.Refusals.{rowsSize, indicesUpTo, classStatus}
 use Rattle.class_index.specs.Answers.{placeStatus}
 use Rattle.definition.specs.Rows.{orZero}
 use Rattle.laws.proofs.Passes.{first-clear, not-both}
 
-pub record Open (rows : ℕ) (indices : List ℕ) (noskip bx by bh : ℕ) : Type 0 where
-  pub column : bx ≤ 15
+pub record Inside (rows : ℕ) (indices : List ℕ) (noskip bx by bh : ℕ) : Type 0 where
+  pub column : bx ≤ lastColumn
   pub some : 0 < bh
-  pub limit : bh ≤ 16
+  pub limit : bh ≤ blockRowLimit
   pub line : by < bh
-  pub size : 760 ≤ rows
+  pub size : rowsSize ≤ rows
   pub low : indicesUpTo 9 indices ≡ true
   pub masks : bh ≤ noskip
 
-pub class-open : (rows : ℕ) (indices : List ℕ) (noskip bx by bh : ℕ) → classStatus rows indices noskip bx by bh ≡ 0 → Open rows indices noskip bx by bh
+pub class-inside : (rows : ℕ) (indices : List ℕ) (noskip bx by bh : ℕ) → classStatus rows indices noskip bx by bh ≡ 0 → Inside rows indices noskip bx by bh
 unfolding classStatus
-class-open rows indices noskip bx by bh e =
-    let p = first-clear (ltb 15 bx || eqb bh 0 || ltb 16 bh || leb bh by) 12 (cond (ltb rows 760 || not (indicesUpTo 9 indices)) 5 (cond (ltb noskip bh) 9 0)) (omega arith) e in
-    let q = first-clear (ltb rows 760 || not (indicesUpTo 9 indices)) 5 (cond (ltb noskip bh) 9 0) (omega arith) (p .1) in
+class-inside rows indices noskip bx by bh e =
+    let p = first-clear (ltb lastColumn bx || eqb bh 0 || ltb blockRowLimit bh || leb bh by) 12 (cond (ltb rows rowsSize || not (indicesUpTo 9 indices)) 5 (cond (ltb noskip bh) 9 0)) (omega arith) e in
+    let q = first-clear (ltb rows rowsSize || not (indicesUpTo 9 indices)) 5 (cond (ltb noskip bh) 9 0) (omega arith) (p .1) in
     let r = first-clear (ltb noskip bh) 9 0 (omega arith) (q .1) in
-    let a = not-both (ltb 15 bx || eqb bh 0 || ltb 16 bh) (leb bh by) (p .0) in
-    let b = not-both (ltb 15 bx || eqb bh 0) (ltb 16 bh) (a .0) in
-    let c = not-both (ltb 15 bx) (eqb bh 0) (b .0) in
-    let d = not-both (ltb rows 760) (not (indicesUpTo 9 indices)) (q .0) in
+    let a = not-both (ltb lastColumn bx || eqb bh 0 || ltb blockRowLimit bh) (leb bh by) (p .0) in
+    let b = not-both (ltb lastColumn bx || eqb bh 0) (ltb blockRowLimit bh) (a .0) in
+    let c = not-both (ltb lastColumn bx) (eqb bh 0) (b .0) in
+    let d = not-both (ltb rows rowsSize) (not (indicesUpTo 9 indices)) (q .0) in
     let line : by < bh = leb-false bh by (a .1) in
     record {
-      column = ltb-false 15 bx (c .0);
+      column = ltb-false lastColumn bx (c .0);
       some = omega arith;
-      limit = ltb-false 16 bh (b .1);
+      limit = ltb-false blockRowLimit bh (b .1);
       line = line;
-      size = ltb-false rows 760 (d .0);
+      size = ltb-false rows rowsSize (d .0);
       low = not-false (indicesUpTo 9 indices) (d .1);
       masks = ltb-false noskip bh (r .0);
     }
 
 -- the place alone
 pub record Placed (noskip bx by bh : ℕ) : Type 0 where
-  pub column : bx ≤ 15
+  pub column : bx ≤ lastColumn
   pub line : by < bh
-  pub limit : bh ≤ 16
+  pub limit : bh ≤ blockRowLimit
   pub masks : bh ≤ noskip
 
-pub place-open : (noskip bx by bh : ℕ) → placeStatus noskip bx by bh ≡ 0 → Placed noskip bx by bh
+pub place-inside : (noskip bx by bh : ℕ) → placeStatus noskip bx by bh ≡ 0 → Placed noskip bx by bh
 unfolding placeStatus
-place-open noskip bx by bh e =
-    let p = first-clear (ltb 15 bx || ltb 16 bh || leb bh by) 12 (cond (ltb noskip bh) 9 0) (omega arith) e in
+place-inside noskip bx by bh e =
+    let p = first-clear (ltb lastColumn bx || ltb blockRowLimit bh || leb bh by) 12 (cond (ltb noskip bh) 9 0) (omega arith) e in
     let r = first-clear (ltb noskip bh) 9 0 (omega arith) (p .1) in
-    let a = not-both (ltb 15 bx || ltb 16 bh) (leb bh by) (p .0) in
-    let b = not-both (ltb 15 bx) (ltb 16 bh) (a .0) in
-    record { column = ltb-false 15 bx (b .0); line = leb-false bh by (a .1); limit = ltb-false 16 bh (b .1); masks = ltb-false noskip bh (r .0) }
+    let a = not-both (ltb lastColumn bx || ltb blockRowLimit bh) (leb bh by) (p .0) in
+    let b = not-both (ltb lastColumn bx) (ltb blockRowLimit bh) (a .0) in
+    record { column = ltb-false lastColumn bx (b .0); line = leb-false bh by (a .1); limit = ltb-false blockRowLimit bh (b .1); masks = ltb-false noskip bh (r .0) }
 
 -- a refused call answers zeros
 pub index-refused : (status n : ℕ) → (status ≡ 0 → ⊥) → 0 ≡ orZero status n
 index-refused zero n h = absurd (h refl)
 index-refused (suc status) n h = refl
 
--- an open one what was computed
-pub index-open : (status n r : ℕ) → status ≡ 0 → r ≡ n → r ≡ orZero status n
-index-open status n r z e = rw z e
+-- one that is not refused what was computed
+pub index-served : (status n r : ℕ) → status ≡ 0 → r ≡ n → r ≡ orZero status n
+index-served status n r z e = rw z e

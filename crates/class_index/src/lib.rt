@@ -1,15 +1,20 @@
 // looprestoration.rs: the class index of a block, at depth 8. Nothing is written; what is refused answers its status and zeros.
 ghost use mathlib.Core.Path.{_≡_};
 ghost use mathlib.Core.Bool.{cond};
-ghost use Prim.Native.Nat.{_+_, _-_, _*_, _%_, _<_, _≤_, min};
+ghost use Prim.Native.Nat.{_+_, _-_, _*_, _%_, _^_, _<_, _≤_, min};
 ghost use lib.IntN.{pos, _+ℤ_};
 ghost use lib.ListN.{length, getD};
 ghost use Rattle.definition.specs.Numbers.{bitSet, toI32};
-ghost use Rattle.definition.specs.ClassIndex.{term, bin, skipSum, skipFactor, indexOf, classIndex};
+ghost use Rattle.definition.specs.Limits.{blockRowLimit};
+ghost use Rattle.definition.specs.ClassIndex.{lastColumn, term, bin, skipSum, skipFactor, indexOf, classIndex};
 ghost use Rattle.definition.specs.Refusals.{classStatus};
 ghost use Rattle.features.specs.Features.{blockFlat};
 ghost use Rattle.class_index.specs.Answers.{placeStatus};
 ghost use Rattle.definition.specs.Rows.{orZero};
+use definition::BLOCK_ROW_LIMIT;
+use definition::INDEX_COUNT;
+use definition::LAST_COLUMN;
+use definition::ROWS_SIZE;
 use features::pcw_features;
 use qval::get_qval_given_tskip;
 use qval::get_qval_lut_bin;
@@ -17,7 +22,7 @@ use tables::PC_WIENER_NORMALIZER;
 
 // The place k - 1 further than at, clipped to 0 .. last.
 fn neighbour(at: usize, k: usize, last: usize) -> usize
-    requires { ⌜ (at ≤ 16) × (k ≤ 2) × (last ≤ 15) ⌝ }
+    requires { ⌜ (at ≤ 2 ^ 16) × (k ≤ 2) × (last ≤ 2 ^ 16) ⌝ }
     ensures { λ r. ⌜ r ≡ min (at + k - 1) last ⌝ }
 {
     intops::iclip(at as i32 + k as i32 - 1, 0, last as i32) as usize
@@ -25,7 +30,7 @@ fn neighbour(at: usize, k: usize, last: usize) -> usize
 
 // What one neighbour adds: its share where its noskip bit is 0.
 fn skip_share(mask: u16, column: usize, share: u32) -> u32
-    requires { ⌜ column ≤ 15 ⌝ }
+    requires { ⌜ column ≤ lastColumn ⌝ }
     ensures { λ r. ⌜ (r ≡ cond (bitSet mask column) 0 share) × (r ≤ share) ⌝ }
 {
     if (mask >> column) % 2 == 1 {
@@ -36,18 +41,18 @@ fn skip_share(mask: u16, column: usize, share: u32) -> u32
 
 // What three neighbours of one row add: those at the sides, and the one between them.
 fn skip_row(mask: u16, bx: usize, side: u32, middle: u32) -> u32
-    requires { ⌜ (bx ≤ 15) × (side ≤ 16) × (middle ≤ 16) ⌝ }
-    ensures { λ r. ⌜ (r ≡ cond (bitSet mask (min (bx + 0 - 1) 15)) 0 side + cond (bitSet mask (min (bx + 1 - 1) 15)) 0 middle + cond (bitSet mask (min (bx + 2 - 1) 15)) 0 side) × (r ≤ 2 * side + middle) ⌝ }
+    requires { ⌜ (bx ≤ lastColumn) × (side ≤ 16) × (middle ≤ 16) ⌝ }
+    ensures { λ r. ⌜ (r ≡ cond (bitSet mask (min (bx + 0 - 1) lastColumn)) 0 side + cond (bitSet mask (min (bx + 1 - 1) lastColumn)) 0 middle + cond (bitSet mask (min (bx + 2 - 1) lastColumn)) 0 side) × (r ≤ 2 * side + middle) ⌝ }
 {
-    let left = skip_share(mask, neighbour(bx, 0, 15), side);
-    let centre = skip_share(mask, neighbour(bx, 1, 15), middle);
-    let right = skip_share(mask, neighbour(bx, 2, 15), side);
+    let left = skip_share(mask, neighbour(bx, 0, LAST_COLUMN), side);
+    let centre = skip_share(mask, neighbour(bx, 1, LAST_COLUMN), middle);
+    let right = skip_share(mask, neighbour(bx, 2, LAST_COLUMN), side);
     left + centre + right
 }
 
 // The skip sum: 16 for the block itself, 4 for a side, 1 for a corner, where the noskip bit is 0.
 fn skip_sum(noskip: &[u16], bh: usize, bx: usize, by: usize) -> u32
-    requires { ⌜ (bx ≤ 15) × (by < bh) × (bh ≤ 16) × (bh ≤ length (now noskip)) ⌝ }
+    requires { ⌜ (bx ≤ lastColumn) × (by < bh) × (bh ≤ blockRowLimit) × (bh ≤ length (now noskip)) ⌝ }
     ensures { λ r. ⌜ (r ≡ skipSum (now (noskip .entry)) bh bx by) × (r ≤ 36) ⌝ }
 {
     let last = bh - 1;
@@ -104,8 +109,8 @@ fn lut_index(f: [i32; 3], qstep: i32, tskip: u8) -> u32
 
 // The index, from the features.
 fn index_of(sums: [u16; 3], noskip: &[u16], base_q: i32, bx: usize, by: usize, bh: usize) -> u32
-    requires { ⌜ (bx ≤ 15) × (by < bh) × (bh ≤ 16) × (bh ≤ length (now noskip)) ⌝ }
-    ensures { λ r. ⌜ r ≡ indexOf (getD sums 0 0) (getD sums 1 0) (getD sums 2 0) «base_q» (7 * skipSum (now (noskip .entry)) bh bx by) ⌝ }
+    requires { ⌜ (bx ≤ lastColumn) × (by < bh) × (bh ≤ blockRowLimit) × (bh ≤ length (now noskip)) ⌝ }
+    ensures { λ r. ⌜ r ≡ indexOf (getD sums 0 0) (getD sums 1 0) (getD sums 2 0) «base_q» (skipFactor * skipSum (now (noskip .entry)) bh bx by) ⌝ }
 {
     let tskip = 7 * skip_sum(noskip, bh, bx, by);
     lut_index(scaled(sums), base_q, tskip as u8)
@@ -119,7 +124,7 @@ pub struct ClassIndex {
 
 fn class_status(
     rows: usize,
-    indices: &[usize; 10],
+    indices: &[usize; INDEX_COUNT],
     noskip: usize,
     bx: usize,
     by: usize,
@@ -127,19 +132,19 @@ fn class_status(
 ) -> u8
     ensures { λ r. ⌜ r ≡ classStatus rows (now (indices .entry)) noskip bx by bh ⌝ }
 {
-    if 15 < bx {
+    if LAST_COLUMN < bx {
         return 12;
     }
     if bh == 0 {
         return 12;
     }
-    if 16 < bh {
+    if BLOCK_ROW_LIMIT < bh {
         return 12;
     }
     if bh <= by {
         return 12;
     }
-    if rows < 760 {
+    if rows < ROWS_SIZE {
         return 5;
     }
     if !bounds::indices_up_to(indices, 9) {
@@ -154,7 +159,7 @@ fn class_status(
 // The class index of block (bx, by) of a unit with bh block rows, 0 to 4095.
 pub fn get_class_lut_idx_8bpc(
     rows: &[u8],
-    indices: [usize; 10],
+    indices: [usize; INDEX_COUNT],
     noskip: &[u16],
     base_q: i32,
     bx: usize,
@@ -177,10 +182,10 @@ pub fn get_class_lut_idx_8bpc(
 fn place_status(noskip: usize, bx: usize, by: usize, bh: usize) -> u8
     ensures { λ r. ⌜ r ≡ placeStatus noskip bx by bh ⌝ }
 {
-    if 15 < bx {
+    if LAST_COLUMN < bx {
         return 12;
     }
-    if 16 < bh {
+    if BLOCK_ROW_LIMIT < bh {
         return 12;
     }
     if bh <= by {

@@ -4,9 +4,9 @@ use Prim.Native.Nat.{_*_}
 use lib.IntN.{ℤ}
 use lib.ListN.{length}
 use mir.Facts.{toZ-ofZ}
-use Rattle.definition.specs.ClassIndex.{skipSum, indexOf}
+use Rattle.definition.specs.ClassIndex.{skipSum, skipFactor, indexOf}
 use Rattle.class_index.specs.Answers.{placeStatus}
-use Rattle.class_index.proofs.Statuses.{place-open, index-refused, index-open}
+use Rattle.class_index.proofs.Statuses.{place-inside, index-refused, index-served}
 use borrow.Author.Needs.{needs}
 use Rattle.class_index.proofs.class_of_features.Statement.{statement}
 use Rattle.class_index.proofs.class_of_features.Tie as tie
@@ -22,7 +22,7 @@ returns c =
 index-of-requires : tie.Need-index-of-requires
 index-of-requires c κs =
     let a = c .before .before .before .args in
-    let p = place-open (length (a .noskip .now)) (a .bx) (a .by) (a .bh) (sym (c .before .place-status .ensures) ∙ c .if1 .left) in
+    let p = place-inside (length (a .noskip .now)) (a .bx) (a .by) (a .bh) (sym (c .before .place-status .ensures) ∙ c .if1 .left) in
     (p .column, p .line, p .limit, p .masks)
 
 returns-2 : tie.Need-returns-2
@@ -31,8 +31,8 @@ returns-2 c =
     let a = o .args in
     let status = placeStatus (length (a .noskip .now)) (a .bx) (a .by) (a .bh) in
     let z : status ≡ 0 = sym (c .before .before .place-status .ensures) ∙ c .before .if1 .left in
-    let t = 7 * skipSum (a .noskip .now) (a .bh) (a .bx) (a .by) in
-    (sym z, index-open status _ (c .index-of .result) z (c .index-of .ensures ∙ ap (λ (q : ℤ). indexOf (a .vertical) (a .falling) (a .rising) q t) (toZ-ofZ (o .fits .base-q))))
+    let t = skipFactor * skipSum (a .noskip .now) (a .bh) (a .bx) (a .by) in
+    (sym z, index-served status _ (c .index-of .result) z (c .index-of .ensures ∙ ap (λ (q : ℤ). indexOf (a .vertical) (a .falling) (a .rising) q t) (toZ-ofZ (o .fits .base-q))))
 
 pub class-of-features-spec : {M : Type 1} → statement M
 class-of-features-spec =

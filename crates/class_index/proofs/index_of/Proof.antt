@@ -6,7 +6,7 @@ use mir.Syntax.{w32}
 use mir.Val.{toZ, ofZ}
 use mir.Facts.{toZ-ofZ}
 use Rattle.definition.specs.Numbers.{toI32}
-use Rattle.definition.specs.ClassIndex.{skipSum, term, bin, indexOf}
+use Rattle.definition.specs.ClassIndex.{skipSum, skipFactor, term, bin, indexOf}
 use borrow.Author.Needs.{needs}
 use Rattle.class_index.proofs.index_of.Statement.{statement}
 use Rattle.class_index.proofs.index_of.Tie as tie
@@ -38,10 +38,10 @@ returns c =
     let f2-is = c .before .scaled .ensures .2 in
     c .lut-index .ensures ∙
     (λ k.
-    512 * bin (term (q-is k) (7 * t-is k) 0) +
-    64 * bin (toI32 (f0-is k +ℤ term (q-is k) (7 * t-is k) 1)) +
-    8 * bin (toI32 (f1-is k +ℤ term (q-is k) (7 * t-is k) 2)) +
-    bin (toI32 (f2-is k +ℤ term (q-is k) (7 * t-is k) 3)))
+    512 * bin (term (q-is k) (skipFactor * t-is k) 0) +
+    64 * bin (toI32 (f0-is k +ℤ term (q-is k) (skipFactor * t-is k) 1)) +
+    8 * bin (toI32 (f1-is k +ℤ term (q-is k) (skipFactor * t-is k) 2)) +
+    bin (toI32 (f2-is k +ℤ term (q-is k) (skipFactor * t-is k) 3)))
 
 pub index-of-spec : {M : Type 1} → statement M
 index-of-spec =

@@ -37,12 +37,12 @@ iclip-requires : tie.Need-iclip-requires
 iclip-requires c κs = search needs
 
 -- what the call gives, read back
-clipped : (at k last : ℕ) (r : ℤ) → at ≤ 16 → k ≤ 2 → last ≤ 15 → mag r < 2 ^ 31 →
+clipped : (at k last : ℕ) (r : ℤ) → at ≤ 2 ^ 16 → k ≤ 2 → last ≤ 2 ^ 16 → mag r < 2 ^ 31 →
     r ≡ clipZ (pos 0) (toZ w32 last) (toZ w32 (subB w32 (addB w32 at k) 1)) →
     toZ w32 (ofZ w32 r) ≡ pos (min (at + k - 1) last)
 clipped at k last r ha hk hl ok e =
-    let v : Held w32 (subB w32 (addB w32 at k) 1) (pos (at + k) -ℤ pos 1) 19 = minus (plus (natural ha (lit< tt)) (natural hk (lit< tt)) (lit< tt)) one (lit< tt) in
-    let l : Held w32 last (pos last) 15 = natural hl (lit< tt) in
+    let v : Held w32 (subB w32 (addB w32 at k) 1) (pos (at + k) -ℤ pos 1) (2 ^ 16 + 3) = minus (plus (natural ha (lit< tt)) (natural hk (lit< tt)) (lit< tt)) one (lit< tt) in
+    let l : Held w32 last (pos last) (2 ^ 16) = natural hl (lit< tt) in
     toZ-ofZ (record { sfits = ok }) ∙
     e ∙
     rw (v .is, l .is) (clip-from-zero last (pos (at + k) -ℤ pos 1) ∙ rw (less-one (at + k)))

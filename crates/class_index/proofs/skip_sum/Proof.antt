@@ -6,6 +6,7 @@ use native.Mathlib.Omega.{arith}
 use lib.ListN.{length, getD}
 use native.Mathlib.Nat.{le-trans}
 use Rattle.definition.specs.Numbers.{bitSet}
+use Rattle.definition.specs.ClassIndex.{lastColumn}
 use Rattle.class_index.proofs.Skips.{skip-lines, clipped-row, last-small, last-in, doubled}
 use borrow.Author.Needs.{needs}
 use Rattle.class_index.proofs.skip_sum.Statement.{statement}
@@ -68,9 +69,9 @@ returns c =
     let a = s .args in
     let l = c .before .before .before in
     let row : ℕ → ℕ → ℕ → ℕ = λ side middle n.
-    (cond (bitSet (getD (a .noskip .now) n 0) (min (a .bx + 0 - 1) 15)) 0 side +
-    cond (bitSet (getD (a .noskip .now) n 0) (min (a .bx + 1 - 1) 15)) 0 middle) +
-    cond (bitSet (getD (a .noskip .now) n 0) (min (a .bx + 2 - 1) 15)) 0 side
+    (cond (bitSet (getD (a .noskip .now) n 0) (min (a .bx + 0 - 1) lastColumn)) 0 side +
+    cond (bitSet (getD (a .noskip .now) n 0) (min (a .bx + 1 - 1) lastColumn)) 0 middle) +
+    cond (bitSet (getD (a .noskip .now) n 0) (min (a .bx + 2 - 1) lastColumn)) 0 side
     in (
       (λ k.
           (c .before .before .skip-row .ensures .0 ∙ ap (row 1 4) (l .before .before .before .before .before .neighbour .ensures)) k +
