@@ -9,13 +9,13 @@ use lib.IntN.{ℤ, pos, negsuc, natAbs, _+ℤ_, _-ℤ_, _*ℤ_}
 use lib.ListN.{length, getD}
 use lib.Seq.{sets}
 use Rattle.definition.specs.Numbers.{sumZ}
-use Rattle.definition.specs.Rows.{tab, chromaFlat, chromaLumaFlat}
+use Rattle.definition.specs.Rows.{tab, chromaFlat, chromaLumaFlat, rowBytes, lumaRowBytes, lumaRowsAt}
 use Rattle.definition.specs.Sample.{limit8, rounded, dyOf, dxOf, centre, nsTap, lumaTap, chromaSum, chromaSample, nsConfigUv, nsConfigUvFromY}
 use Rattle.laws.proofs.Ints.{before-pos, sub-pos}
 use Rattle.laws.proofs.Lists.{sets-before, sets-in, length-tab, getD-tab, tab-cong}
 use Rattle.laws.proofs.Tables.{near-at}
 use Rattle.filter.specs.Runs.{coefficients}
-use Rattle.filter.specs.Gathered.{Gathered, every, compactAt, compactTap, compactSum, compactRun}
+use Rattle.filter.specs.Gathered.{Gathered, every, compactAt, compactTap, compactSum, compactRun, compactBytes, compactSize}
 
 -- dy rows from the third of five, and from the eighth of ten indices
 row-place : (dy : ℤ) → natAbs dy ≤ 2 → (natAbs (pos 2 +ℤ dy) < 5) × (5 + natAbs (pos 2 +ℤ dy) ≡ natAbs (pos 7 +ℤ dy))
@@ -43,15 +43,15 @@ eight-further x (negsuc b) h = rw (before-pos (x + 8 + 2) b (omega arith), befor
 pub none-gathered : {rows indices : List ℕ} {first step n : ℕ} {compact : List ℕ} → Gathered rows indices first step n 0 compact
 none-gathered = record { is = λ k j hk hj. absurd (not-suc-le-zero hk) }
 
-pub one-gathered : {rows indices : List ℕ} {first step n m : ℕ} {compact : List ℕ} → Gathered rows indices first step n m compact → length compact ≡ 420 → m < 5 → n + 4 ≤ 76 →
-    Gathered rows indices first step n (m + 1) (sets compact (84 * m + 8) (tab (n + 4) (every rows (380 + 140 * getD indices (5 + m) 0 + first) step)))
+pub one-gathered : {rows indices : List ℕ} {first step n m : ℕ} {compact : List ℕ} → Gathered rows indices first step n m compact → length compact ≡ compactSize → m < 5 → n + 4 ≤ rowBytes →
+    Gathered rows indices first step n (m + 1) (sets compact (compactBytes * m + 8) (tab (n + 4) (every rows (lumaRowsAt + lumaRowBytes * getD indices (5 + m) 0 + first) step)))
 one-gathered {rows} {indices} {first} {step} {n} {m} {compact} h e l short =
-    let f : ℕ → ℕ = every rows (380 + 140 * getD indices (5 + m) 0 + first) step in
+    let f : ℕ → ℕ = every rows (lumaRowsAt + lumaRowBytes * getD indices (5 + m) 0 + first) step in
     record {
       is = λ k j hk hj.
           elim (ℕ-discrete k m) [
-            | yes q ↦ rw q (sets-in (tab (n + 4) f) compact (84 * m + 8) j (rw (length-tab (n + 4) f) hj) (omega arith) ∙ getD-tab (n + 4) f j hj)
-            | no ne ↦ sets-before (tab (n + 4) f) compact (84 * m + 8) (84 * k + 8 + j) (omega arith) ∙ h .is k j (omega arith) hj
+            | yes q ↦ rw q (sets-in (tab (n + 4) f) compact (compactBytes * m + 8) j (rw (length-tab (n + 4) f) hj) (omega arith) ∙ getD-tab (n + 4) f j hj)
+            | no ne ↦ sets-before (tab (n + 4) f) compact (compactBytes * m + 8) (compactBytes * k + 8 + j) (omega arith) ∙ h .is k j (omega arith) hj
           ];
     }
 
@@ -66,9 +66,9 @@ module _ (rows indices : List ℕ) (lcol0 first step n : ℕ) (compact : List �
       let c = column-place lcol0 first step n x dx e l v in
       let k : ℕ = natAbs (pos 2 +ℤ dy) in
       let j : ℕ = natAbs (pos (x + 2) +ℤ dx) in
-      let place : 380 + 140 * getD indices (5 + k) 0 + first + j * step ≡ 380 + 140 * getD indices (5 + k) 0 + (first + j * step) = omega arith in
-      let behind : 84 * k + natAbs (pos (x + 8 + 2) +ℤ dx) ≡ 84 * k + 8 + j = omega (arith, eight-further x dx v) in
-      ap (λ (m : ℕ). getD compact m 0) behind ∙ h .is k j (r .0) (c .0) ∙ ap (λ (m : ℕ). getD rows m 0) place ∙ (λ i. getD rows (380 + 140 * getD indices (r .1 i) 0 + c .1 i) 0)
+      let place : lumaRowsAt + lumaRowBytes * getD indices (5 + k) 0 + first + j * step ≡ lumaRowsAt + lumaRowBytes * getD indices (5 + k) 0 + (first + j * step) = omega arith in
+      let behind : compactBytes * k + natAbs (pos (x + 8 + 2) +ℤ dx) ≡ compactBytes * k + 8 + j = omega (arith, eight-further x dx v) in
+      ap (λ (m : ℕ). getD compact m 0) behind ∙ h .is k j (r .0) (c .0) ∙ ap (λ (m : ℕ). getD rows m 0) place ∙ (λ i. getD rows (lumaRowsAt + lumaRowBytes * getD indices (r .1 i) 0 + c .1 i) 0)
 
   centre-is : compactAt compact (x + 8) (pos 0) (pos 0) ≡ centre own
   centre-is = byte-is (pos 0) (pos 0) (omega arith) (omega arith) ∙ ap (λ (m : ℕ). own (pos 0) (pos m)) (mul-zero step)

@@ -1,4 +1,4 @@
--- A pretrained filter whose pairs are each less 255: what is taken off, 255 times its numbers, gives the filter's own sum back.
+-- A pretrained filter whose pairs are each less the largest sample: what is taken off, that times its numbers, gives the filter's own sum back.
 use mathlib.Core.Path.{_≡_, sym, ap, ap₂, subst, _∙_}
 use mathlib.Core.List.{List}
 use Prim.Native.Nat.{ℕ, zero, suc, _+_, _-_}
@@ -11,7 +11,7 @@ use mir.Val.{SFits, toZ, ofZ}
 use mir.Facts.{toZ-ofZ}
 use Rattle.laws.proofs.Ints.{sub-pos, sub-neg}
 use Rattle.definition.specs.Numbers.{sumZ}
-use Rattle.definition.specs.Sample.{centre, pairOf, pretrainedSum, pcConfig}
+use Rattle.definition.specs.Sample.{centre, pairOf, pretrainedSum, pcConfig, limit8}
 use Rattle.filter.specs.Windows.{lessTap, takenOff, TakenOff}
 
 -- sums of integers: four of them in another order, and a natural factor of two
@@ -64,7 +64,7 @@ lessened s c =
     let m : ℤ = pos (centre s) *ℤ c 12 in
     ap (λ (z : ℤ). z +ℤ sumZ 12 (lessTap s c)) (+ℤ-comm (takenOff c) m) ∙
     +ℤ-assoc m (takenOff c) (sumZ 12 (lessTap s c)) ∙
-    ap (λ (z : ℤ). m +ℤ z) (less-sum 255 12 (λ k. pairOf s pcConfig k) c)
+    ap (λ (z : ℤ). m +ℤ z) (less-sum limit8 12 (λ k. pairOf s pcConfig k) c)
 
 -- what is taken off, as the machine passes it on
 pub passed-off : {filter : List ℤ} {off : ℤ} → SFits w32 off → TakenOff filter off → TakenOff filter (toZ w32 (ofZ w32 off))

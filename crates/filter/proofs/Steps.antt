@@ -10,6 +10,7 @@ use mir.Syntax.{Width, w8, w32}
 use mir.Val.{SFits, toZ, ofZ, hbits}
 use mir.Facts.{toZ-ofZ}
 use Rattle.definition.specs.Sample.{dyOf, dxOf, centre, nsTap}
+use Rattle.definition.specs.Rows.{rowBytes, indexCount}
 use Rattle.laws.proofs.Ints.{sfits-abs}
 use Rattle.laws.proofs.Tables.{all, near, near-at}
 use Rattle.laws.proofs.Sums.{begun, tapped, passed}
@@ -17,7 +18,7 @@ use Rattle.filter.specs.Windows.{Window, Spot, PairAt, TapPair, Summed}
 
 -- a tap within reach of a window
 pub spot : {first size reach mid : ℕ} {rows indices : List ℕ} {col : ℕ} {dy dx : ℤ} →
-    Window first size reach rows indices col → size < 2 ^ 16 → natAbs dy ≤ mid → mid + natAbs dy < 10 → natAbs dx ≤ reach → Spot size mid col dy dx
+    Window first size reach rows indices col → size < 2 ^ 16 → natAbs dy ≤ mid → mid + natAbs dy < indexCount → natAbs dx ≤ reach → Spot size mid col dy dx
 spot {reach = reach} {dx = dx} w s u d x =
     record { rowUp = u; rowDown = d; colLeft = omega (arith, w .left); colRight = omega (arith, w .right); small = s }
 
@@ -29,8 +30,8 @@ module _ (reach : ℕ) (taps : List (List ℤ)) (e : T (near reach [])) (t : T (
   pub dx-is : toZ w8 (ofZ w8 (dxOf taps k)) ≡ dxOf taps k
   dx-is = toZ-ofZ (sfits-abs (omega (arith, near-at reach taps e t k .1)))
 
-  pub tap-spot : {mid : ℕ} {rows indices : List ℕ} {col : ℕ} → Window 0 76 reach rows indices col → reach ≤ mid → mid + reach < 10 →
-      Spot 76 mid col (toZ w8 (ofZ w8 (dyOf taps k))) (toZ w8 (ofZ w8 (dxOf taps k)))
+  pub tap-spot : {mid : ℕ} {rows indices : List ℕ} {col : ℕ} → Window 0 rowBytes reach rows indices col → reach ≤ mid → mid + reach < indexCount →
+      Spot rowBytes mid col (toZ w8 (ofZ w8 (dyOf taps k))) (toZ w8 (ofZ w8 (dxOf taps k)))
   tap-spot w u d =
       rw (dy-is, dx-is) (spot w (omega arith) (omega (arith, near-at reach taps e t k .0)) (omega (arith, near-at reach taps e t k .0)) (near-at reach taps e t k .1))
 

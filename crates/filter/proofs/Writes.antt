@@ -8,7 +8,7 @@ use native.Mathlib.Omega.{arith}
 use lib.ListN.{length, getD, set, length-set}
 use lib.Seq.{sets, length-sets, getD-set-same, getD-set-other}
 use Rattle.definition.specs.Rows.{tab, unlessRefused}
-use Rattle.laws.proofs.Lists.{sets-more, sets-run, tab-cong}
+use Rattle.laws.proofs.Lists.{sets-run, tab-cong}
 use Rattle.filter.specs.Windows.{Turned}
 
 -- after x turns of n, d is what was written over d₀; `asked` is what each turn may use
@@ -23,9 +23,6 @@ none-yet w = record { inside = w; turns = zero-le; is = refl }
 module _ {asked : Type 0} {f : ℕ → ℕ} {d₀ : List ℕ} {n : ℕ} {d : List ℕ} {x : ℕ} (h : Writing asked f d₀ n d x) where
   pub same : length d ≡ length d₀
   same = ap length (h .is) ∙ length-sets d₀ 0 (tab x f)
-
-  pub one-more : {v : ℕ} → x < n → v ≡ f x → Writing asked f d₀ n (set d x v) (x + 1)
-  one-more l e = record { inside = h .inside; turns = omega arith; is = rw (h .is, e) (rw (zero-add x) at (sets-more x d₀ 0 f)) }
 
   -- m more at once, from `skip` on of a list that holds them
   pub some-more : {d′ : List ℕ} (eight : List ℕ) (skip m : ℕ) → x + m ≤ n → d′ ≡ sets d x (tab m (λ j. getD eight (skip + j) 0)) → ((j : ℕ) → j < m → getD eight (skip + j) 0 ≡ f (x + j)) →

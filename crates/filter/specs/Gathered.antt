@@ -1,5 +1,5 @@
 -- Luma that is gathered at chroma's resolution.
-use Prim.Native.Nat.{ℕ, _+_, _*_, _≤_, _<_}
+use Prim.Native.Nat.{ℕ, _+_, _*_, _^_, _≤_, _<_}
 use mathlib.Core.List.{List}
 use mathlib.Core.Path.{_≡_}
 use lib.IntN.{ℤ, pos, natAbs, _+ℤ_, _-ℤ_, _*ℤ_}
@@ -9,7 +9,7 @@ use Rattle.definition.specs.Numbers.{sumZ}
 use Rattle.definition.specs.Rows.{tab, rowBytes, lumaRowBytes, lumaRowsAt, chromaFlat}
 use Rattle.definition.specs.Sample.{limit8, rounded, dyOf, dxOf, centre, nsTap, nsConfigUv, nsConfigUvFromY}
 use Rattle.filter.specs.Runs.{coefficients}
-use Rattle.filter.specs.Windows.{Rows, Summed}
+use Rattle.filter.specs.Windows.{Rows, Summed, pairLimit}
 
 -- every `step`-th byte from `from` on
 abbrev pub every : List ℕ → ℕ → ℕ → ℕ → ℕ
@@ -21,9 +21,15 @@ pub record Gatherable (rows indices : List ℕ) (first step n : ℕ) : Type 0 wh
   pub columns : (j : ℕ) → j < n + 4 → first + j * step < lumaRowBytes
   pub short : n + 4 ≤ rowBytes
 
--- a row of them, behind eight bytes
+-- a row of them, behind eight bytes; the five rows; and up to where the taps of a sample, two columns on both sides, stay in the row
 abbrev pub compactBytes : ℕ
-compactBytes = 84
+compactBytes = rowBytes + 8
+
+abbrev pub compactSize : ℕ
+compactSize = 5 * compactBytes
+
+abbrev pub compactEnd : ℕ
+compactEnd = rowBytes + 4
 
 -- the first m of the five rows so gathered
 pub record Gathered (rows indices : List ℕ) (first step n m : ℕ) (compact : List ℕ) : Type 0 where
@@ -47,6 +53,9 @@ compactSample rows indices compact filter col x = rounded limit8 (compactSum (ch
 abbrev pub compactRun : List ℕ → List ℕ → List ℕ → ℕ → List ℕ → List ℤ → ℕ → List ℕ
 compactRun dst rows indices col0 compact filter n = sets dst 0 (tab n (λ x. compactSample rows indices compact filter (col0 + x) (x + 8)))
 
--- the taps of luma are added up by themselves
+-- the taps of luma are added up by themselves, each of them at most so far from 0
+abbrev pub lumaTapLimit : ℕ
+lumaTapLimit = pairLimit * 2 ^ 7
+
 abbrev pub FromLumaPartial : List ℕ → ℕ → List ℤ → ℕ → ℤ → Type 0
-FromLumaPartial compact x filter = Summed (x < 80) (pos 0) (compactTap (compactAt compact x) (coefficients filter)) 0 65280
+FromLumaPartial compact x filter = Summed (x < compactEnd) (pos 0) (compactTap (compactAt compact x) (coefficients filter)) 0 lumaTapLimit

@@ -7,7 +7,7 @@ use lib.Dec.{leb}
 use lib.IntN.{ℤ, pos}
 use lib.ListN.{length, getD}
 use lib.Seq.{sets}
-use Rattle.definition.specs.Rows.{tab, outsideUnless, unlessRefused, rowBytes, lumaRowBytes, lumaFlat, chromaFlat, chromaLumaFlat}
+use Rattle.definition.specs.Rows.{tab, outsideUnless, unlessRefused, rowBytes, lumaRowBytes, lumaFlat, chromaFlat, chromaLumaFlat, stateBytes}
 use Rattle.definition.specs.Sample.{limit8, lumaSample, pretrainedSample, chromaSample}
 use Rattle.definition.specs.Refusals.{rowsSize, indicesUpTo}
 
@@ -15,7 +15,7 @@ use Rattle.definition.specs.Refusals.{rowsSize, indicesUpTo}
 abbrev pub windowInside : ℕ → ℕ → ℕ → ℕ → Bool
 windowInside size e col0 n = leb e col0 && leb (col0 + n + e) size
 
--- luma and pretrained, by the lengths of destination and rows: ten rows of 76 bytes, border 4
+-- luma and pretrained, by the lengths of destination and rows: ten rows, border 4
 unfoldable pub runStatus : ℕ → ℕ → List ℕ → ℕ → ℕ → ℕ
 runStatus dst rows indices col0 n =
     outsideUnless (leb n dst && leb rowsSize rows && indicesUpTo 9 indices && windowInside rowBytes 4 col0 n)
@@ -35,14 +35,11 @@ module _ (dst rows indices : List ℕ) (col0 : ℕ) (filter : List ℤ) (n : ℕ
       unlessRefused (runStatus (length dst) (length rows) indices col0 n) dst
       (sets dst 0 (tab n (λ x. pretrainedSample limit8 (lumaFlat rows indices (col0 + x)) (coefficients filter))))
 
--- chroma: five rows of 76 bytes, border 2, and five luma rows of 140 behind them, border 4, `step` luma columns for one of chroma
-abbrev pub chromaRowsSize : ℕ
-chromaRowsSize = 1080
-
+-- chroma: five rows, border 2, and five luma rows behind them, border 4, `step` luma columns for one of chroma
 unfoldable pub uvStatus : ℕ → ℕ → List ℕ → ℕ → ℕ → ℕ → ℕ → ℕ
 uvStatus dst rows indices col0 lcol0 step n =
     outsideUnless
-    (leb n dst && leb chromaRowsSize rows && indicesUpTo 4 indices && windowInside rowBytes 2 col0 n &&
+    (leb n dst && leb stateBytes rows && indicesUpTo 4 indices && windowInside rowBytes 2 col0 n &&
     leb step 2 && windowInside lumaRowBytes 4 lcol0 (step * n))
 
 abbrev pub chromaRun : List ℕ → List ℕ → List ℕ → ℕ → ℕ → ℕ → List ℤ → ℕ → List ℕ

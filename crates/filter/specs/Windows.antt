@@ -6,7 +6,7 @@ use lib.Dec.{leb}
 use mathlib.Core.Path.{_≡_}
 use lib.IntN.{ℤ, pos, negℤ, natAbs, _+ℤ_, _-ℤ_, _*ℤ_}
 use Rattle.definition.specs.Numbers.{sumZ}
-use Rattle.definition.specs.Rows.{rowBytes, lumaFlat, chromaFlat}
+use Rattle.definition.specs.Rows.{rowBytes, lumaFlat, chromaFlat, indexCount}
 use Rattle.definition.specs.Refusals.{indicesUpTo}
 use Rattle.definition.specs.Sample.{limit8, centre, pairOf, nsTap, nsConfigY, nsConfigUv, pcConfig}
 use Rattle.laws.proofs.Sums.{Partial}
@@ -19,21 +19,38 @@ ownInside dst rows indices col0 n size limit e = leb n dst && leb size rows && i
 
 -- the ten indices lead to rows of `size` bytes, from `first` on, that lie inside
 pub record Rows (first size : ℕ) (rows indices : List ℕ) : Type 0 where
-  pub inside : (j : ℕ) → j < 10 → first + size * getD indices j 0 + size ≤ length rows
+  pub inside : (j : ℕ) → j < indexCount → first + size * getD indices j 0 + size ≤ length rows
 
 -- a tap of at most 4 rows and columns that leads neither out of the ten indices nor out of the row
 pub record Spot (size mid col : ℕ) (dy dx : ℤ) : Type 0 where
   pub rowUp : natAbs dy ≤ mid
-  pub rowDown : mid + natAbs dy < 10
+  pub rowDown : mid + natAbs dy < indexCount
   pub colLeft : natAbs dx ≤ col
   pub colRight : col + natAbs dx < size
   pub small : size < 2 ^ 16
 
--- twice the greatest byte
+-- twice the largest sample
 abbrev pub pairLimit : ℕ
 pairLimit = 2 * limit8
 
--- a + b, which is at most twice a byte
+-- how far from 0 the sums of luma and chroma start at the most, and how far a tap leads them
+abbrev pub startLimit : ℕ
+startLimit = 128 * limit8
+
+abbrev pub nsTapLimit : ℕ
+nsTapLimit = 2 * pairLimit * 2 ^ 7
+
+-- the same of a pretrained set: its centre, a tap, and what twelve of them take off
+abbrev pub centreLimit : ℕ
+centreLimit = limit8 * 2 ^ 15
+
+abbrev pub lessTapLimit : ℕ
+lessTapLimit = (pairLimit + limit8) * 2 ^ 15
+
+abbrev pub takenOffLimit : ℕ
+takenOffLimit = limit8 * (12 * 2 ^ 15)
+
+-- a + b, which is at most twice a sample
 pub record PairAt (s : ℤ → ℤ → ℕ) (dy dx : ℤ) (r : ℕ) : Type 0 where
   pub is : r ≡ s dy dx + s (negℤ dy) (negℤ dx)
   pub bound : r ≤ pairLimit
@@ -56,14 +73,14 @@ pub record Summed (asked : Type 0) (C : ℤ) (f : ℕ → ℤ) (B D k : ℕ) (s 
 
 -- eight windows side by side
 pub record Eight (reach : ℕ) (rows indices : List ℕ) (at : ℕ) : Type 0 where
-  pub window : (j : ℕ) → j < 8 → Window 0 76 reach rows indices (at + j)
+  pub window : (j : ℕ) → j < 8 → Window 0 rowBytes reach rows indices (at + j)
 
 -- a run of n samples from byte col0 on over its own rows, with `reach` columns on both sides
 pub record OwnInside (reach dst : ℕ) (rows indices : List ℕ) (col0 n : ℕ) : Type 0 where
   pub room : n ≤ dst
-  pub inside : Rows 0 76 rows indices
+  pub inside : Rows 0 rowBytes rows indices
   pub left : reach ≤ col0
-  pub right : col0 + n + reach ≤ 76
+  pub right : col0 + n + reach ≤ rowBytes
 
 -- one turn of a run, from sample x on: of the eight samples from byte `at` on it writes m, from the `skip`-th on
 pub record Turned (col0 x n last at skip m : ℕ) : Type 0 where
@@ -73,32 +90,32 @@ pub record Turned (col0 x n last at skip m : ℕ) : Type 0 where
   pub eight : skip + m ≤ 8
   pub end : x + m ≤ n
 
--- a pretrained filter's tap, whose pair is less 255, and what the twelve of them take off
+-- a pretrained filter's tap, whose pair is less the largest sample, and what the twelve of them take off
 abbrev pub lessTap : (ℤ → ℤ → ℕ) → (ℕ → ℤ) → ℕ → ℤ
-lessTap s c k = (pos (pairOf s pcConfig k) -ℤ pos 255) *ℤ c k
+lessTap s c k = (pos (pairOf s pcConfig k) -ℤ pos limit8) *ℤ c k
 
 abbrev pub takenOff : (ℕ → ℤ) → ℤ
-takenOff c = pos 255 *ℤ sumZ 12 c
+takenOff c = pos limit8 *ℤ sumZ 12 c
 
 pub record TakenOff (filter : List ℤ) (off : ℤ) : Type 0 where
   pub is : off ≡ takenOff (coefficients filter)
-  pub bound : natAbs off ≤ 100270080
+  pub bound : natAbs off ≤ takenOffLimit
 
 -- the sum of a pretrained filter after k of those taps
 abbrev pub PretrainedPartial : List ℕ → List ℕ → ℕ → List ℤ → ℕ → ℤ → Type 0
 PretrainedPartial rows indices col filter =
-    Summed (Window 0 76 4 rows indices col)
+    Summed (Window 0 rowBytes 4 rows indices col)
     (takenOff (coefficients filter) +ℤ pos (centre (lumaFlat rows indices col)) *ℤ coefficients filter 12)
-    (lessTap (lumaFlat rows indices col) (coefficients filter)) 108625920 25067520
+    (lessTap (lumaFlat rows indices col) (coefficients filter)) (takenOffLimit + centreLimit) lessTapLimit
 
 -- the sums of the other filters after k taps
 module _ (rows indices : List ℕ) (col : ℕ) (filter : List ℤ) where
   abbrev pub LumaPartial : ℕ → ℤ → Type 0
   LumaPartial =
-      Summed (Window 0 76 4 rows indices col)
-      (pos (128 * centre (lumaFlat rows indices col))) (nsTap (lumaFlat rows indices col) (coefficients filter) nsConfigY) 32640 130560
+      Summed (Window 0 rowBytes 4 rows indices col)
+      (pos (128 * centre (lumaFlat rows indices col))) (nsTap (lumaFlat rows indices col) (coefficients filter) nsConfigY) startLimit nsTapLimit
 
   abbrev pub ChromaPartial : ℕ → ℤ → Type 0
   ChromaPartial =
-      Summed (Window 0 76 2 rows indices col)
-      (pos (128 * centre (chromaFlat rows indices col))) (nsTap (chromaFlat rows indices col) (coefficients filter) nsConfigUv) 32640 130560
+      Summed (Window 0 rowBytes 2 rows indices col)
+      (pos (128 * centre (chromaFlat rows indices col))) (nsTap (chromaFlat rows indices col) (coefficients filter) nsConfigUv) startLimit nsTapLimit

@@ -4,12 +4,12 @@ ghost use Prim.Native.Nat.{ℕ, _+_, _*_, _^_, _<_, _≤_};
 ghost use lib.IntN.{pos, natAbs, _+ℤ_, _-ℤ_, _*ℤ_};
 ghost use lib.ListN.{length, getD};
 ghost use lib.Seq.{sets};
-ghost use Rattle.definition.specs.Rows.{tab, chromaFlat};
+ghost use Rattle.definition.specs.Rows.{tab, chromaFlat, rowBytes};
 ghost use Rattle.definition.specs.Sample.{dyOf, dxOf, nsConfigUv, nsConfigUvFromY};
 ghost use Rattle.filter.specs.Runs.{uvStatus};
 ghost use Rattle.filter.specs.Windows.{OwnInside, Window, Eight, ChromaPartial, TapPair};
 ghost use Rattle.filter.specs.Groups.{Small, ChromaGroup, FromLumaGroup};
-ghost use Rattle.filter.specs.Gathered.{every, Gatherable, Gathered, compactAt, compactSample, compactRun, FromLumaPartial};
+ghost use Rattle.filter.specs.Gathered.{every, Gatherable, Gathered, compactAt, compactSample, compactRun, FromLumaPartial, lumaTapLimit, compactSize, compactEnd};
 use crate::narrow::difference;
 use crate::narrow::narrow_tap;
 use crate::narrow::with_group;
@@ -23,27 +23,35 @@ use crate::taps::round_clip;
 use crate::turns::next_turn;
 use crate::turns::put;
 use bounds::least;
+use definition::INDEX_COUNT;
+use definition::LUMA_ROW_BYTES;
+use definition::LUMA_ROWS_AT;
+use definition::ROW_BYTES;
+use definition::STATE_BYTES;
 use tables::WIENER_NS_CONFIG_UV;
 use tables::WIENER_NS_CONFIG_UV_FROM_Y;
 
-const LUMA_ROW_BYTES: usize = 140;
-
-const LUMA_ROWS_AT: usize = 380;
-
 // A row of gathered luma: eight bytes before it, so that eight samples can begin before the run does.
-const COMPACT_BYTES: usize = 84;
+const COMPACT_BYTES: usize = ROW_BYTES + 8;
+
+const COMPACT_SIZE: usize = 5 * COMPACT_BYTES;
+
+// Where the last eight of such a row begin, and those of a row of chroma: their taps reach two columns further on both sides.
+const LAST_GATHERED: usize = COMPACT_BYTES - 8 - 4;
+
+const LAST_CHROMA_EIGHT: usize = ROW_BYTES - 8 - 2;
 
 // s + (v - m) c
 fn luma_tap(s: i32, v: u8, m: u8, c: i8) -> i32
     requires { ⌜ natAbs s < 2 ^ 30 ⌝ }
-    ensures { λ r. ⌜ (r ≡ s +ℤ (pos v -ℤ pos m) *ℤ c) × (natAbs r ≤ natAbs s + 65280) ⌝ }
+    ensures { λ r. ⌜ (r ≡ s +ℤ (pos v -ℤ pos m) *ℤ c) × (natAbs r ≤ natAbs s + lumaTapLimit) ⌝ }
 {
     s + (v as i32 - m as i32) * c as i32
 }
 
 // The pair of tap k.
-fn uv_pair(rows: &[u8], indices: &[usize; 10], col: usize, k: usize) -> u32
-    requires { ⌜ Window 0 76 2 (now rows) (now indices) col ⌝ }
+fn uv_pair(rows: &[u8], indices: &[usize; INDEX_COUNT], col: usize, k: usize) -> u32
+    requires { ⌜ Window 0 rowBytes 2 (now rows) (now indices) col ⌝ }
     requires { ⌜ k < 6 ⌝ }
     ensures { λ r. ⌜ TapPair (chromaFlat (now (rows .entry)) (now (indices .entry)) col) nsConfigUv k r ⌝ }
 {
@@ -55,7 +63,7 @@ fn uv_pair(rows: &[u8], indices: &[usize; 10], col: usize, k: usize) -> u32
 fn uv_step(
     s: i32,
     rows: &[u8],
-    indices: &[usize; 10],
+    indices: &[usize; INDEX_COUNT],
     col: usize,
     filter: &[i8; 18],
     k: usize,
@@ -70,8 +78,8 @@ fn uv_step(
 }
 
 // The sum of its own six taps.
-fn uv_own_sum(rows: &[u8], indices: &[usize; 10], col: usize, filter: &[i8; 18]) -> i32
-    requires { ⌜ Window 0 76 2 (now rows) (now indices) col ⌝ }
+fn uv_own_sum(rows: &[u8], indices: &[usize; INDEX_COUNT], col: usize, filter: &[i8; 18]) -> i32
+    requires { ⌜ Window 0 rowBytes 2 (now rows) (now indices) col ⌝ }
     ensures { λ r. ⌜ ChromaPartial (now (rows .entry)) (now (indices .entry)) col (now (filter .entry)) 6 r ⌝ }
 {
     let s0 = ns_start(rows, indices, 2, col);
@@ -84,8 +92,15 @@ fn uv_own_sum(rows: &[u8], indices: &[usize; 10], col: usize, filter: &[i8; 18])
 }
 
 // One of the five rows of luma, at chroma's resolution: every `step`-th byte from `from` on, n of them, to byte `to` on.
-fn gather_row(compact: &mut [u8; 420], to: usize, rows: &[u8], from: usize, step: usize, n: usize)
-    requires { ⌜ to + n ≤ 420 ⌝ }
+fn gather_row(
+    compact: &mut [u8; COMPACT_SIZE],
+    to: usize,
+    rows: &[u8],
+    from: usize,
+    step: usize,
+    n: usize,
+)
+    requires { ⌜ to + n ≤ compactSize ⌝ }
     requires { ⌜ ((j : ℕ) → j < n → from + j * step < length (now rows)) ⌝ }
     ensures { λ _. ⌜ now (compact .exit) ≡ sets (now (compact .entry)) to (tab n (every (now (rows .entry)) from step)) ⌝ }
 {
@@ -98,11 +113,17 @@ fn gather_row(compact: &mut [u8; 420], to: usize, rows: &[u8], from: usize, step
 
 // The five rows of luma that n chroma samples read, from column `first` on. So the taps of luma have steps of one byte, which the
 // compiler can take side by side.
-pub fn gather(rows: &[u8], indices: &[usize; 10], first: usize, step: usize, n: usize) -> [u8; 420]
+pub fn gather(
+    rows: &[u8],
+    indices: &[usize; INDEX_COUNT],
+    first: usize,
+    step: usize,
+    n: usize,
+) -> [u8; COMPACT_SIZE]
     requires { ⌜ Gatherable (now rows) (now indices) first step n ⌝ }
     ensures { λ r. ⌜ Gathered (now (rows .entry)) (now (indices .entry)) first step n 5 r ⌝ }
 {
-    let mut compact = [0u8; 420];
+    let mut compact = [0u8; COMPACT_SIZE];
     let mut k = 0;
     while k < 5 {
         let row = indices[5 + k];
@@ -114,8 +135,8 @@ pub fn gather(rows: &[u8], indices: &[usize; 10], first: usize, step: usize, n: 
 }
 
 // The byte dy rows and dx columns from the luma of sample x - 8.
-fn compact_at(compact: &[u8; 420], x: usize, dy: i8, dx: i8) -> u8
-    requires { ⌜ (x < 80) × (natAbs dy ≤ 2) × (natAbs dx ≤ 2) ⌝ }
+fn compact_at(compact: &[u8; COMPACT_SIZE], x: usize, dy: i8, dx: i8) -> u8
+    requires { ⌜ (x < compactEnd) × (natAbs dy ≤ 2) × (natAbs dx ≤ 2) ⌝ }
     ensures { λ r. ⌜ r ≡ compactAt (now (compact .entry)) x dy dx ⌝ }
 {
     let row = moved(2, dy);
@@ -123,8 +144,8 @@ fn compact_at(compact: &[u8; 420], x: usize, dy: i8, dx: i8) -> u8
 }
 
 // The luma of tap k.
-fn uv_luma_at(compact: &[u8; 420], x: usize, k: usize) -> u8
-    requires { ⌜ (x < 80) × (k < 12) ⌝ }
+fn uv_luma_at(compact: &[u8; COMPACT_SIZE], x: usize, k: usize) -> u8
+    requires { ⌜ (x < compactEnd) × (k < 12) ⌝ }
     ensures { λ r. ⌜ r ≡ compactAt (now (compact .entry)) x (dyOf nsConfigUvFromY k) (dxOf nsConfigUvFromY k) ⌝ }
 {
     let t = WIENER_NS_CONFIG_UV_FROM_Y[k];
@@ -132,7 +153,7 @@ fn uv_luma_at(compact: &[u8; 420], x: usize, k: usize) -> u8
 }
 
 // One tap more of its twelve of luma.
-fn uv_luma_step(s: i32, compact: &[u8; 420], x: usize, filter: &[i8; 18], k: usize) -> i32
+fn uv_luma_step(s: i32, compact: &[u8; COMPACT_SIZE], x: usize, filter: &[i8; 18], k: usize) -> i32
     requires { ⌜ k < 12 ⌝ }
     requires { ⌜ FromLumaPartial (now compact) x (now filter) k s ⌝ }
     ensures { λ r. ⌜ FromLumaPartial (now (compact .entry)) x (now (filter .entry)) (k + 1) r ⌝ }
@@ -143,8 +164,8 @@ fn uv_luma_step(s: i32, compact: &[u8; 420], x: usize, filter: &[i8; 18], k: usi
     luma_tap(s, v, m, filter[at])
 }
 
-fn uv_luma_sum(compact: &[u8; 420], x: usize, filter: &[i8; 18]) -> i32
-    requires { ⌜ x < 80 ⌝ }
+fn uv_luma_sum(compact: &[u8; COMPACT_SIZE], x: usize, filter: &[i8; 18]) -> i32
+    requires { ⌜ x < compactEnd ⌝ }
     ensures { λ r. ⌜ FromLumaPartial (now (compact .entry)) x (now (filter .entry)) 12 r ⌝ }
 {
     let s1 = uv_luma_step(0, compact, x, filter, 0);
@@ -165,7 +186,7 @@ fn uv_luma_sum(compact: &[u8; 420], x: usize, filter: &[i8; 18]) -> i32
 fn uv_narrow_step(
     s: i16,
     rows: &[u8],
-    indices: &[usize; 10],
+    indices: &[usize; INDEX_COUNT],
     col: usize,
     filter: &[i8; 18],
     g: usize,
@@ -185,7 +206,7 @@ fn uv_narrow_step(
 // The same of its taps of luma.
 fn uv_narrow_luma_step(
     s: i16,
-    compact: &[u8; 420],
+    compact: &[u8; COMPACT_SIZE],
     x: usize,
     filter: &[i8; 18],
     g: usize,
@@ -204,8 +225,13 @@ fn uv_narrow_luma_step(
 }
 
 // The same sum as `uv_own_sum`.
-fn uv_narrow_own_sum(rows: &[u8], indices: &[usize; 10], col: usize, filter: &[i8; 18]) -> i32
-    requires { ⌜ Window 0 76 2 (now rows) (now indices) col ⌝ }
+fn uv_narrow_own_sum(
+    rows: &[u8],
+    indices: &[usize; INDEX_COUNT],
+    col: usize,
+    filter: &[i8; 18],
+) -> i32
+    requires { ⌜ Window 0 rowBytes 2 (now rows) (now indices) col ⌝ }
     requires { ⌜ Small 18 (now filter) ⌝ }
     ensures { λ r. ⌜ ChromaPartial (now (rows .entry)) (now (indices .entry)) col (now (filter .entry)) 6 r ⌝ }
 {
@@ -221,8 +247,8 @@ fn uv_narrow_own_sum(rows: &[u8], indices: &[usize; 10], col: usize, filter: &[i
 }
 
 // The same sum as `uv_luma_sum`.
-fn uv_narrow_luma_sum(compact: &[u8; 420], x: usize, filter: &[i8; 18]) -> i32
-    requires { ⌜ x < 80 ⌝ }
+fn uv_narrow_luma_sum(compact: &[u8; COMPACT_SIZE], x: usize, filter: &[i8; 18]) -> i32
+    requires { ⌜ x < compactEnd ⌝ }
     requires { ⌜ Small 18 (now filter) ⌝ }
     ensures { λ r. ⌜ FromLumaPartial (now (compact .entry)) x (now (filter .entry)) 12 r ⌝ }
 {
@@ -255,14 +281,14 @@ fn uv_sum(own: i32, of_luma: i32) -> i32
 // Eight chroma samples from byte `at` on, whose luma is gathered from sample x - 8 on.
 fn uv_eight(
     rows: &[u8],
-    indices: &[usize; 10],
+    indices: &[usize; INDEX_COUNT],
     at: usize,
-    compact: &[u8; 420],
+    compact: &[u8; COMPACT_SIZE],
     x: usize,
     filter: &[i8; 18],
 ) -> [u8; 8]
     requires { ⌜ Eight 2 (now rows) (now indices) at ⌝ }
-    requires { ⌜ x ≤ 72 ⌝ }
+    requires { ⌜ x + 8 ≤ compactEnd ⌝ }
     ensures { λ r. ⌜ ((j : ℕ) → j < 8 → getD r j 0 ≡ compactSample (now (rows .entry)) (now (indices .entry)) (now (compact .entry)) (now (filter .entry)) (at + j) (x + j)) ⌝ }
 {
     let mut out = [0u8; 8];
@@ -279,14 +305,14 @@ fn uv_eight(
 // The same eight samples as `uv_eight`.
 fn uv_narrow_eight(
     rows: &[u8],
-    indices: &[usize; 10],
+    indices: &[usize; INDEX_COUNT],
     at: usize,
-    compact: &[u8; 420],
+    compact: &[u8; COMPACT_SIZE],
     x: usize,
     filter: &[i8; 18],
 ) -> [u8; 8]
     requires { ⌜ Eight 2 (now rows) (now indices) at ⌝ }
-    requires { ⌜ x ≤ 72 ⌝ }
+    requires { ⌜ x + 8 ≤ compactEnd ⌝ }
     requires { ⌜ Small 18 (now filter) ⌝ }
     ensures { λ r. ⌜ ((j : ℕ) → j < 8 → getD r j 0 ≡ compactSample (now (rows .entry)) (now (indices .entry)) (now (compact .entry)) (now (filter .entry)) (at + j) (x + j)) ⌝ }
 {
@@ -305,9 +331,9 @@ fn uv_narrow_eight(
 pub fn uv_run(
     dst: &mut [u8],
     rows: &[u8],
-    indices: &[usize; 10],
+    indices: &[usize; INDEX_COUNT],
     col0: usize,
-    compact: &[u8; 420],
+    compact: &[u8; COMPACT_SIZE],
     filter: &[i8; 18],
     n: usize,
 )
@@ -316,8 +342,8 @@ pub fn uv_run(
 {
     let mut x = 0;
     while x < n {
-        let t = next_turn(col0, x, n, 66);
-        let from = least(t.at + 8 - col0, 72);
+        let t = next_turn(col0, x, n, LAST_CHROMA_EIGHT);
+        let from = least(t.at + 8 - col0, LAST_GATHERED);
         let eight = uv_eight(rows, indices, t.at, compact, from, filter);
         put(dst, x, eight, t.skip, t.m);
         x += t.m;
@@ -328,9 +354,9 @@ pub fn uv_run(
 pub fn uv_narrow_run(
     dst: &mut [u8],
     rows: &[u8],
-    indices: &[usize; 10],
+    indices: &[usize; INDEX_COUNT],
     col0: usize,
-    compact: &[u8; 420],
+    compact: &[u8; COMPACT_SIZE],
     filter: &[i8; 18],
     n: usize,
 )
@@ -340,8 +366,8 @@ pub fn uv_narrow_run(
 {
     let mut x = 0;
     while x < n {
-        let t = next_turn(col0, x, n, 66);
-        let from = least(t.at + 8 - col0, 72);
+        let t = next_turn(col0, x, n, LAST_CHROMA_EIGHT);
+        let from = least(t.at + 8 - col0, LAST_GATHERED);
         let eight = uv_narrow_eight(rows, indices, t.at, compact, from, filter);
         put(dst, x, eight, t.skip, t.m);
         x += t.m;
@@ -351,7 +377,7 @@ pub fn uv_narrow_run(
 pub fn uv_status(
     dst: usize,
     rows: usize,
-    indices: &[usize; 10],
+    indices: &[usize; INDEX_COUNT],
     col0: usize,
     lcol0: usize,
     step: usize,
@@ -359,7 +385,7 @@ pub fn uv_status(
 ) -> u8
     ensures { λ r. ⌜ r ≡ uvStatus dst rows (now (indices .entry)) col0 lcol0 step n ⌝ }
 {
-    if !own_inside(dst, rows, indices, col0, n, 1080, 4, 2) {
+    if !own_inside(dst, rows, indices, col0, n, STATE_BYTES, 4, 2) {
         return 5;
     }
     if 2 < step {

@@ -17,6 +17,8 @@ use chroma::gather;
 use chroma::uv_narrow_run;
 use chroma::uv_run;
 use chroma::uv_status;
+use definition::INDEX_COUNT;
+use definition::ROW_BYTES;
 use luma::y_eight_by;
 use narrow::worth_groups;
 use pretrained::is_small_set;
@@ -26,11 +28,14 @@ use taps::run_status;
 use turns::next_turn;
 use turns::put;
 
+// The byte that the last eight samples of a row begin at: their taps reach four columns further on both sides.
+const LAST_EIGHT: usize = ROW_BYTES - 8 - 4;
+
 // The n samples from byte col0 on, restored by a luma filter or by the first 16 numbers of a user set.
 pub fn ns_wiener_fir_run(
     dst: &mut [u8],
     rows: &[u8],
-    indices: &[usize; 10],
+    indices: &[usize; INDEX_COUNT],
     col0: usize,
     filter: &[i8; 16],
     n: usize,
@@ -47,7 +52,7 @@ pub fn ns_wiener_fir_run(
     let copy = *filter;
     let mut x = 0;
     while x < n {
-        let t = next_turn(col0, x, n, 64);
+        let t = next_turn(col0, x, n, LAST_EIGHT);
         let eight = y_eight_by(rows, &ix, t.at, filter, &copy, small);
         put(dst, x, eight, t.skip, t.m);
         x += t.m;
@@ -59,7 +64,7 @@ pub fn ns_wiener_fir_run(
 pub fn pc_wiener_fir_run(
     dst: &mut [u8],
     rows: &[u8],
-    indices: &[usize; 10],
+    indices: &[usize; INDEX_COUNT],
     col0: usize,
     filter: &[i16; 13],
     n: usize,
@@ -77,7 +82,7 @@ pub fn pc_wiener_fir_run(
     let copy = *filter;
     let mut x = 0;
     while x < n {
-        let t = next_turn(col0, x, n, 64);
+        let t = next_turn(col0, x, n, LAST_EIGHT);
         let eight = pc_eight_by(rows, &ix, t.at, filter, off, &copy, small);
         put(dst, x, eight, t.skip, t.m);
         x += t.m;
@@ -89,7 +94,7 @@ pub fn pc_wiener_fir_run(
 pub fn ns_wiener_uv_fir_run(
     dst: &mut [u8],
     rows: &[u8],
-    indices: &[usize; 10],
+    indices: &[usize; INDEX_COUNT],
     col0: usize,
     lcol0: usize,
     step: usize,

@@ -3,7 +3,7 @@ ghost use mathlib.Core.Bool.{true};
 ghost use mathlib.Core.Path.{_≡_};
 ghost use Prim.Native.Nat.{ℕ, _+_, _<_};
 ghost use lib.ListN.{getD};
-ghost use Rattle.definition.specs.Rows.{lumaFlat};
+ghost use Rattle.definition.specs.Rows.{lumaFlat, rowBytes};
 ghost use Rattle.definition.specs.Sample.{limit8, lumaSample, nsConfigY};
 ghost use Rattle.filter.specs.Runs.{coefficients};
 ghost use Rattle.filter.specs.Windows.{Window, Eight, LumaPartial, TapPair};
@@ -16,11 +16,12 @@ use crate::taps::ns_start;
 use crate::taps::ns_tap;
 use crate::taps::pair_at;
 use crate::taps::round_clip;
+use definition::INDEX_COUNT;
 use tables::WIENER_NS_CONFIG_Y;
 
 // The pair of tap k.
-fn y_pair(rows: &[u8], indices: &[usize; 10], col: usize, k: usize) -> u32
-    requires { ⌜ Window 0 76 4 (now rows) (now indices) col ⌝ }
+fn y_pair(rows: &[u8], indices: &[usize; INDEX_COUNT], col: usize, k: usize) -> u32
+    requires { ⌜ Window 0 rowBytes 4 (now rows) (now indices) col ⌝ }
     requires { ⌜ k < 16 ⌝ }
     ensures { λ r. ⌜ TapPair (lumaFlat (now (rows .entry)) (now (indices .entry)) col) nsConfigY k r ⌝ }
 {
@@ -32,7 +33,7 @@ fn y_pair(rows: &[u8], indices: &[usize; 10], col: usize, k: usize) -> u32
 fn y_step(
     s: i32,
     rows: &[u8],
-    indices: &[usize; 10],
+    indices: &[usize; INDEX_COUNT],
     col: usize,
     filter: &[i8; 16],
     k: usize,
@@ -47,8 +48,8 @@ fn y_step(
 }
 
 // The sum that one sample of the luma filter rounds. The taps are written out: so the table is folded away.
-fn y_sum(rows: &[u8], indices: &[usize; 10], col: usize, filter: &[i8; 16]) -> i32
-    requires { ⌜ Window 0 76 4 (now rows) (now indices) col ⌝ }
+fn y_sum(rows: &[u8], indices: &[usize; INDEX_COUNT], col: usize, filter: &[i8; 16]) -> i32
+    requires { ⌜ Window 0 rowBytes 4 (now rows) (now indices) col ⌝ }
     ensures { λ r. ⌜ LumaPartial (now (rows .entry)) (now (indices .entry)) col (now (filter .entry)) 16 r ⌝ }
 {
     let s0 = ns_start(rows, indices, 4, col);
@@ -71,7 +72,7 @@ fn y_sum(rows: &[u8], indices: &[usize; 10], col: usize, filter: &[i8; 16]) -> i
 }
 
 // Eight samples from byte `at` on, restored by a luma filter.
-fn y_eight(rows: &[u8], indices: &[usize; 10], at: usize, filter: &[i8; 16]) -> [u8; 8]
+fn y_eight(rows: &[u8], indices: &[usize; INDEX_COUNT], at: usize, filter: &[i8; 16]) -> [u8; 8]
     requires { ⌜ Eight 4 (now rows) (now indices) at ⌝ }
     ensures { λ r. ⌜ ((j : ℕ) → j < 8 → getD r j 0 ≡ lumaSample limit8 (lumaFlat (now (rows .entry)) (now (indices .entry)) (at + j)) (coefficients (now (filter .entry)))) ⌝ }
 {
@@ -88,7 +89,7 @@ fn y_eight(rows: &[u8], indices: &[usize; 10], at: usize, filter: &[i8; 16]) -> 
 fn y_narrow_step(
     s: i16,
     rows: &[u8],
-    indices: &[usize; 10],
+    indices: &[usize; INDEX_COUNT],
     col: usize,
     filter: &[i8; 16],
     g: usize,
@@ -106,8 +107,8 @@ fn y_narrow_step(
 }
 
 // The same sum as `y_sum`, of groups of taps.
-fn y_narrow_sum(rows: &[u8], indices: &[usize; 10], col: usize, filter: &[i8; 16]) -> i32
-    requires { ⌜ Window 0 76 4 (now rows) (now indices) col ⌝ }
+fn y_narrow_sum(rows: &[u8], indices: &[usize; INDEX_COUNT], col: usize, filter: &[i8; 16]) -> i32
+    requires { ⌜ Window 0 rowBytes 4 (now rows) (now indices) col ⌝ }
     requires { ⌜ Small 16 (now filter) ⌝ }
     ensures { λ r. ⌜ LumaPartial (now (rows .entry)) (now (indices .entry)) col (now (filter .entry)) 16 r ⌝ }
 {
@@ -137,7 +138,12 @@ fn y_narrow_sum(rows: &[u8], indices: &[usize; 10], col: usize, filter: &[i8; 16
 }
 
 // The same eight samples as `y_eight`.
-fn y_narrow_eight(rows: &[u8], indices: &[usize; 10], at: usize, filter: &[i8; 16]) -> [u8; 8]
+fn y_narrow_eight(
+    rows: &[u8],
+    indices: &[usize; INDEX_COUNT],
+    at: usize,
+    filter: &[i8; 16],
+) -> [u8; 8]
     requires { ⌜ Eight 4 (now rows) (now indices) at ⌝ }
     requires { ⌜ Small 16 (now filter) ⌝ }
     ensures { λ r. ⌜ ((j : ℕ) → j < 8 → getD r j 0 ≡ lumaSample limit8 (lumaFlat (now (rows .entry)) (now (indices .entry)) (at + j)) (coefficients (now (filter .entry)))) ⌝ }
@@ -154,7 +160,7 @@ fn y_narrow_eight(rows: &[u8], indices: &[usize; 10], at: usize, filter: &[i8; 1
 // Eight samples, by the filter or, where its numbers are small, by its copy.
 pub fn y_eight_by(
     rows: &[u8],
-    indices: &[usize; 10],
+    indices: &[usize; INDEX_COUNT],
     at: usize,
     filter: &[i8; 16],
     copy: &[i8; 16],

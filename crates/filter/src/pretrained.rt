@@ -4,30 +4,32 @@ ghost use mathlib.Core.Path.{_≡_};
 ghost use Prim.Native.Nat.{ℕ, _+_, _^_, _<_, _≤_};
 ghost use lib.IntN.{pos, natAbs, _+ℤ_, _-ℤ_, _*ℤ_};
 ghost use lib.ListN.{getD};
-ghost use Rattle.definition.specs.Rows.{lumaFlat};
+ghost use Rattle.definition.specs.Rows.{lumaFlat, rowBytes};
 ghost use Rattle.definition.specs.Sample.{limit8, centre, pretrainedSample, pcConfig};
 ghost use Rattle.filter.specs.Runs.{coefficients};
-ghost use Rattle.filter.specs.Windows.{Window, Eight, TakenOff, PretrainedPartial, TapPair};
+ghost use Rattle.filter.specs.Windows.{Window, Eight, TakenOff, PretrainedPartial, TapPair, pairLimit, lessTapLimit, centreLimit};
 ghost use Rattle.filter.specs.Groups.{Small, NarrowPretrained, PretrainedGroup};
 use crate::narrow::is_large;
 use crate::narrow::narrow_tap;
 use crate::narrow::with_group;
+use crate::taps::LIMIT;
 use crate::taps::centre_at;
 use crate::taps::pair_at;
 use crate::taps::round_clip;
+use definition::INDEX_COUNT;
 use tables::PC_WIENER_CONFIG;
 
-// s + (p - 255) c
+// s + (p - LIMIT) c
 fn pc_tap(s: i32, p: u32, c: i16) -> i32
-    requires { ⌜ (natAbs s < 2 ^ 30) × (p ≤ 510) ⌝ }
-    ensures { λ r. ⌜ (r ≡ s +ℤ (pos p -ℤ pos 255) *ℤ c) × (natAbs r ≤ natAbs s + 25067520) ⌝ }
+    requires { ⌜ (natAbs s < 2 ^ 30) × (p ≤ pairLimit) ⌝ }
+    ensures { λ r. ⌜ (r ≡ s +ℤ (pos p -ℤ pos limit8) *ℤ c) × (natAbs r ≤ natAbs s + lessTapLimit) ⌝ }
 {
-    s + (p as i32 - 255) * c as i32
+    s + (p as i32 - LIMIT) * c as i32
 }
 
 // The pair of tap k.
-fn pc_pair(rows: &[u8], indices: &[usize; 10], col: usize, k: usize) -> u32
-    requires { ⌜ Window 0 76 4 (now rows) (now indices) col ⌝ }
+fn pc_pair(rows: &[u8], indices: &[usize; INDEX_COUNT], col: usize, k: usize) -> u32
+    requires { ⌜ Window 0 rowBytes 4 (now rows) (now indices) col ⌝ }
     requires { ⌜ k < 12 ⌝ }
     ensures { λ r. ⌜ TapPair (lumaFlat (now (rows .entry)) (now (indices .entry)) col) pcConfig k r ⌝ }
 {
@@ -35,7 +37,7 @@ fn pc_pair(rows: &[u8], indices: &[usize; 10], col: usize, k: usize) -> u32
     pair_at(rows, indices, 4, col, t[0], t[1])
 }
 
-// 255 times the numbers of a pretrained set but its last. A tap multiplies a pair less 255, which is of either sign: then the compiler multiplies 16 by 16 bits.
+// LIMIT times the numbers of a pretrained set but its last. A tap multiplies a pair less LIMIT, which is of either sign: then the compiler multiplies 16 by 16 bits.
 pub fn taken_off(filter: &[i16; 13]) -> i32
     ensures { λ r. ⌜ TakenOff (now (filter .entry)) r ⌝ }
 {
@@ -45,21 +47,27 @@ pub fn taken_off(filter: &[i16; 13]) -> i32
         s += filter[k] as i32;
         k += 1;
     }
-    255 * s
+    LIMIT * s
 }
 
 // The centre times the last number of a set.
-fn pc_centre(rows: &[u8], indices: &[usize; 10], col: usize, last: i16) -> i32
-    requires { ⌜ Window 0 76 4 (now rows) (now indices) col ⌝ }
-    ensures { λ r. ⌜ (r ≡ pos (centre (lumaFlat (now (rows .entry)) (now (indices .entry)) col)) *ℤ last) × (natAbs r ≤ 8355840) ⌝ }
+fn pc_centre(rows: &[u8], indices: &[usize; INDEX_COUNT], col: usize, last: i16) -> i32
+    requires { ⌜ Window 0 rowBytes 4 (now rows) (now indices) col ⌝ }
+    ensures { λ r. ⌜ (r ≡ pos (centre (lumaFlat (now (rows .entry)) (now (indices .entry)) col)) *ℤ last) × (natAbs r ≤ centreLimit) ⌝ }
 {
     let m = centre_at(rows, indices, 4, col);
     m as i32 * last as i32
 }
 
 // The same, and what the taps will take off.
-fn pc_start(rows: &[u8], indices: &[usize; 10], col: usize, filter: &[i16; 13], off: i32) -> i32
-    requires { ⌜ Window 0 76 4 (now rows) (now indices) col ⌝ }
+fn pc_start(
+    rows: &[u8],
+    indices: &[usize; INDEX_COUNT],
+    col: usize,
+    filter: &[i16; 13],
+    off: i32,
+) -> i32
+    requires { ⌜ Window 0 rowBytes 4 (now rows) (now indices) col ⌝ }
     requires { ⌜ TakenOff (now filter) off ⌝ }
     ensures { λ r. ⌜ PretrainedPartial (now (rows .entry)) (now (indices .entry)) col (now (filter .entry)) 0 r ⌝ }
 {
@@ -70,7 +78,7 @@ fn pc_start(rows: &[u8], indices: &[usize; 10], col: usize, filter: &[i16; 13], 
 fn pc_step(
     s: i32,
     rows: &[u8],
-    indices: &[usize; 10],
+    indices: &[usize; INDEX_COUNT],
     col: usize,
     filter: &[i16; 13],
     k: usize,
@@ -84,8 +92,14 @@ fn pc_step(
 }
 
 // The sum that one sample of a pretrained filter rounds.
-fn pc_sum(rows: &[u8], indices: &[usize; 10], col: usize, filter: &[i16; 13], off: i32) -> i32
-    requires { ⌜ Window 0 76 4 (now rows) (now indices) col ⌝ }
+fn pc_sum(
+    rows: &[u8],
+    indices: &[usize; INDEX_COUNT],
+    col: usize,
+    filter: &[i16; 13],
+    off: i32,
+) -> i32
+    requires { ⌜ Window 0 rowBytes 4 (now rows) (now indices) col ⌝ }
     requires { ⌜ TakenOff (now filter) off ⌝ }
     ensures { λ r. ⌜ PretrainedPartial (now (rows .entry)) (now (indices .entry)) col (now (filter .entry)) 12 r ⌝ }
 {
@@ -105,7 +119,13 @@ fn pc_sum(rows: &[u8], indices: &[usize; 10], col: usize, filter: &[i16; 13], of
 }
 
 // Eight samples from byte `at` on, restored by a pretrained set.
-fn pc_eight(rows: &[u8], indices: &[usize; 10], at: usize, filter: &[i16; 13], off: i32) -> [u8; 8]
+fn pc_eight(
+    rows: &[u8],
+    indices: &[usize; INDEX_COUNT],
+    at: usize,
+    filter: &[i16; 13],
+    off: i32,
+) -> [u8; 8]
     requires { ⌜ Eight 4 (now rows) (now indices) at ⌝ }
     requires { ⌜ TakenOff (now filter) off ⌝ }
     ensures { λ r. ⌜ ((j : ℕ) → j < 8 → getD r j 0 ≡ pretrainedSample limit8 (lumaFlat (now (rows .entry)) (now (indices .entry)) (at + j)) (coefficients (now (filter .entry)))) ⌝ }
@@ -123,7 +143,7 @@ fn pc_eight(rows: &[u8], indices: &[usize; 10], at: usize, filter: &[i16; 13], o
 fn pc_narrow_step(
     s: i16,
     rows: &[u8],
-    indices: &[usize; 10],
+    indices: &[usize; INDEX_COUNT],
     col: usize,
     filter: &[i16; 13],
     g: usize,
@@ -141,12 +161,12 @@ fn pc_narrow_step(
 // The sum that one sample of a pretrained filter rounds, of groups of taps: nothing is taken off.
 fn pc_narrow_sum(
     rows: &[u8],
-    indices: &[usize; 10],
+    indices: &[usize; INDEX_COUNT],
     col: usize,
     filter: &[i16; 13],
     last: i16,
 ) -> i32
-    requires { ⌜ Window 0 76 4 (now rows) (now indices) col ⌝ }
+    requires { ⌜ Window 0 rowBytes 4 (now rows) (now indices) col ⌝ }
     requires { ⌜ Small 12 (now filter) × (last ≡ coefficients (now filter) 12) ⌝ }
     ensures { λ r. ⌜ NarrowPretrained (now (rows .entry)) (now (indices .entry)) col (now (filter .entry)) 12 r ⌝ }
 {
@@ -170,7 +190,12 @@ fn pc_narrow_sum(
 }
 
 // The same eight samples as `pc_eight`. The last number stands in eight places: so the compiler multiplies eight centres at once.
-fn pc_narrow_eight(rows: &[u8], indices: &[usize; 10], at: usize, filter: &[i16; 13]) -> [u8; 8]
+fn pc_narrow_eight(
+    rows: &[u8],
+    indices: &[usize; INDEX_COUNT],
+    at: usize,
+    filter: &[i16; 13],
+) -> [u8; 8]
     requires { ⌜ Eight 4 (now rows) (now indices) at ⌝ }
     requires { ⌜ Small 12 (now filter) ⌝ }
     ensures { λ r. ⌜ ((j : ℕ) → j < 8 → getD r j 0 ≡ pretrainedSample limit8 (lumaFlat (now (rows .entry)) (now (indices .entry)) (at + j)) (coefficients (now (filter .entry)))) ⌝ }
@@ -204,7 +229,7 @@ pub fn is_small_set(filter: &[i16; 13]) -> bool
 // Eight samples, by the set or, where its taps are small, by its copy.
 pub fn pc_eight_by(
     rows: &[u8],
-    indices: &[usize; 10],
+    indices: &[usize; INDEX_COUNT],
     at: usize,
     filter: &[i16; 13],
     off: i32,

@@ -3,22 +3,27 @@ ghost use mathlib.Core.Path.{_≡_};
 ghost use Prim.Native.Nat.{_+_, _*_, _^_, _<_, _≤_};
 ghost use lib.IntN.{pos, natAbs, _+ℤ_, _-ℤ_, _*ℤ_};
 ghost use Rattle.definition.specs.Numbers.{clipTo};
-ghost use Rattle.definition.specs.Rows.{flatAround};
+ghost use Rattle.definition.specs.Rows.{flatAround, rowBytes, indexCount};
 ghost use Rattle.definition.specs.Sample.{limit8, rounded, centre};
 ghost use Rattle.filter.specs.Runs.{runStatus};
-ghost use Rattle.filter.specs.Windows.{ownInside, Rows, Spot, PairAt};
+ghost use Rattle.filter.specs.Windows.{ownInside, Rows, Spot, PairAt, pairLimit, startLimit, nsTapLimit};
+use definition::INDEX_COUNT;
+use definition::ROW_BYTES;
+use definition::ROWS_SIZE;
+use definition::SAMPLE_LIMIT;
 
-const ROW_BYTES: usize = 76;
+// The largest sample, in the width that sums are taken in.
+pub const LIMIT: i32 = SAMPLE_LIMIT as i32;
 
-// v clipped to 0 .. 255, as an i32: so the compiler narrows with saturation.
+// v clipped to a sample, as an i32: so the compiler narrows with saturation.
 fn clipped(v: i32) -> i32
     ensures { λ r. ⌜ r ≡ pos (clipTo limit8 v) ⌝ }
 {
     if v < 0 {
         return 0;
     }
-    if v > 255 {
-        return 255;
+    if v > LIMIT {
+        return LIMIT;
     }
     v
 }
@@ -37,7 +42,7 @@ pub fn round_clip(s: i32) -> u8
 pub fn own_inside(
     dst: usize,
     rows: usize,
-    indices: &[usize; 10],
+    indices: &[usize; INDEX_COUNT],
     col0: usize,
     n: usize,
     size: usize,
@@ -61,10 +66,16 @@ pub fn own_inside(
     bounds::room(col0, n, e, ROW_BYTES)
 }
 
-pub fn run_status(dst: usize, rows: usize, indices: &[usize; 10], col0: usize, n: usize) -> u8
+pub fn run_status(
+    dst: usize,
+    rows: usize,
+    indices: &[usize; INDEX_COUNT],
+    col0: usize,
+    n: usize,
+) -> u8
     ensures { λ r. ⌜ r ≡ runStatus dst rows (now (indices .entry)) col0 n ⌝ }
 {
-    if !own_inside(dst, rows, indices, col0, n, 760, 9, 4) {
+    if !own_inside(dst, rows, indices, col0, n, ROWS_SIZE, 9, 4) {
         return 5;
     }
     0
@@ -81,7 +92,7 @@ pub fn moved(at: usize, d: i8) -> usize
 // The byte dy rows and dx columns from byte col of the row that index mid leads to.
 fn byte_at(
     rows: &[u8],
-    indices: &[usize; 10],
+    indices: &[usize; INDEX_COUNT],
     first: usize,
     size: usize,
     mid: usize,
@@ -98,19 +109,26 @@ fn byte_at(
 }
 
 // The byte col of the row that index mid leads to: what the taps are taken around.
-pub fn centre_at(rows: &[u8], indices: &[usize; 10], mid: usize, col: usize) -> u8
-    requires { ⌜ Rows 0 76 (now rows) (now indices) ⌝ }
-    requires { ⌜ (mid < 10) × (col < 76) ⌝ }
-    ensures { λ r. ⌜ r ≡ centre (flatAround 0 76 mid (now (rows .entry)) (now (indices .entry)) col) ⌝ }
+pub fn centre_at(rows: &[u8], indices: &[usize; INDEX_COUNT], mid: usize, col: usize) -> u8
+    requires { ⌜ Rows 0 rowBytes (now rows) (now indices) ⌝ }
+    requires { ⌜ (mid < indexCount) × (col < rowBytes) ⌝ }
+    ensures { λ r. ⌜ r ≡ centre (flatAround 0 rowBytes mid (now (rows .entry)) (now (indices .entry)) col) ⌝ }
 {
     byte_at(rows, indices, 0, ROW_BYTES, mid, col, 0, 0)
 }
 
 // The sum of the bytes at (+dy, +dx) and at (-dy, -dx) from byte col of the row that index mid leads to.
-pub fn pair_at(rows: &[u8], indices: &[usize; 10], mid: usize, col: usize, dy: i8, dx: i8) -> u32
-    requires { ⌜ Rows 0 76 (now rows) (now indices) ⌝ }
-    requires { ⌜ Spot 76 mid col dy dx ⌝ }
-    ensures { λ r. ⌜ PairAt (flatAround 0 76 mid (now (rows .entry)) (now (indices .entry)) col) dy dx r ⌝ }
+pub fn pair_at(
+    rows: &[u8],
+    indices: &[usize; INDEX_COUNT],
+    mid: usize,
+    col: usize,
+    dy: i8,
+    dx: i8,
+) -> u32
+    requires { ⌜ Rows 0 rowBytes (now rows) (now indices) ⌝ }
+    requires { ⌜ Spot rowBytes mid col dy dx ⌝ }
+    ensures { λ r. ⌜ PairAt (flatAround 0 rowBytes mid (now (rows .entry)) (now (indices .entry)) col) dy dx r ⌝ }
 {
     let a = byte_at(rows, indices, 0, ROW_BYTES, mid, col, dy, dx);
     let b = byte_at(rows, indices, 0, ROW_BYTES, mid, col, 0 - dy, 0 - dx);
@@ -119,17 +137,17 @@ pub fn pair_at(rows: &[u8], indices: &[usize; 10], mid: usize, col: usize, dy: i
 
 // s + (p - 2m) c
 pub fn ns_tap(s: i32, p: u32, m: u8, c: i8) -> i32
-    requires { ⌜ (natAbs s < 2 ^ 30) × (p ≤ 510) ⌝ }
-    ensures { λ r. ⌜ (r ≡ s +ℤ (pos p -ℤ pos (2 * m)) *ℤ c) × (natAbs r ≤ natAbs s + 130560) ⌝ }
+    requires { ⌜ (natAbs s < 2 ^ 30) × (p ≤ pairLimit) ⌝ }
+    ensures { λ r. ⌜ (r ≡ s +ℤ (pos p -ℤ pos (2 * m)) *ℤ c) × (natAbs r ≤ natAbs s + nsTapLimit) ⌝ }
 {
     s + (p as i32 - 2 * m as i32) * c as i32
 }
 
 // 128 times the centre, from which the luma and chroma filters start.
-pub fn ns_start(rows: &[u8], indices: &[usize; 10], mid: usize, col: usize) -> i32
-    requires { ⌜ Rows 0 76 (now rows) (now indices) ⌝ }
-    requires { ⌜ (mid < 10) × (col < 76) ⌝ }
-    ensures { λ r. ⌜ (r ≡ pos (128 * centre (flatAround 0 76 mid (now (rows .entry)) (now (indices .entry)) col))) × (natAbs r ≤ 32640) ⌝ }
+pub fn ns_start(rows: &[u8], indices: &[usize; INDEX_COUNT], mid: usize, col: usize) -> i32
+    requires { ⌜ Rows 0 rowBytes (now rows) (now indices) ⌝ }
+    requires { ⌜ (mid < indexCount) × (col < rowBytes) ⌝ }
+    ensures { λ r. ⌜ (r ≡ pos (128 * centre (flatAround 0 rowBytes mid (now (rows .entry)) (now (indices .entry)) col))) × (natAbs r ≤ startLimit) ⌝ }
 {
     128 * centre_at(rows, indices, mid, col) as i32
 }

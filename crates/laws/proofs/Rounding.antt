@@ -1,6 +1,6 @@
 -- Rounding by a shift of 7 and clipping to 0 .. limit, the fact that the three filters share: what the tests of the code say, and what the
 -- machine holds of (s + 64) >> 7.
-use mathlib.Core.Path.{_≡_, sym, ap, _∙_}
+use mathlib.Core.Path.{_≡_, sym}
 use mathlib.Core.Bool.{true, false}
 use Prim.Native.Nat.{ℕ, _^_, _<_, _≤_}
 use native.Mathlib.Omega.{arith}
@@ -11,7 +11,6 @@ use borrow.Author.Tests.{ltb-true, ltb-false}
 use mir.Syntax.{w32}
 use mir.Val.{SFits, toZ, ofZ}
 use Rattle.definition.specs.Numbers.{clipTo}
-use Rattle.definition.specs.Sample.{rounded}
 use Rattle.laws.proofs.Ints.{never}
 use Rattle.laws.proofs.Held.{kept, natural, plus, shifted}
 
@@ -31,18 +30,5 @@ clip-mid limit (negsuc n) h k = absurd (never (sym h))
 abbrev pub held : ℤ → ℤ
 held s = toZ w32 (ofZ w32 (shrZ (toZ w32 (ofZ w32 (toZ w32 (ofZ w32 s) +ℤ pos 64))) 128))
 
-module _ (limit : ℕ) (s : ℤ) (fits : SFits w32 s) (bound : natAbs s < 2 ^ 30) where
-  held-is : held s ≡ shrZ (s +ℤ pos 64) 128
-  held-is = shifted 128 (plus (kept fits) (natural {n = 64} {B = 64} (omega arith) (omega arith)) (omega arith)) (omega arith) .is
-
-  pub low : ltZ (held s) (pos 0) ≡ true → 0 ≡ rounded limit s
-  unfolding rounded
-  low h = clip-low limit (held s) h ∙ ap (clipTo limit) held-is
-
-  pub high : ltZ (pos limit) (held s) ≡ true → limit ≡ rounded limit s
-  unfolding rounded
-  high h = clip-high limit (held s) h ∙ ap (clipTo limit) held-is
-
-  pub mid : ltZ (held s) (pos 0) ≡ false → ltZ (pos limit) (held s) ≡ false → natAbs (held s) ≡ rounded limit s
-  unfolding rounded
-  mid h k = clip-mid limit (held s) h k .2 ∙ ap (clipTo limit) held-is
+pub held-is : (s : ℤ) → SFits w32 s → natAbs s < 2 ^ 30 → held s ≡ shrZ (s +ℤ pos 64) 128
+held-is s fits bound = shifted 128 (plus (kept fits) (natural {n = 64} {B = 64} (omega arith) (omega arith)) (omega arith)) (omega arith) .is

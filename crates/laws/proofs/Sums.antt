@@ -42,7 +42,3 @@ tapped {C} {f} {B} {D} {k} {s} {r} h e b =
 -- a sum that a call gave, as the machine passes it on
 pub passed : {C : ℤ} {f : ℕ → ℤ} {B D k : ℕ} {s : ℤ} → mag s < 2 ^ 31 → Partial C f B D k s → Partial C f B D k (toZ w32 (ofZ w32 s))
 passed {C} {f} {B} {D} {k} ok h = subst (Partial C f B D k) (sym (toZ-ofZ (record { sfits = ok }))) h
-
--- the sum that one list of taps leaves is what a second one starts from: chroma's taps of luma after its own
-pub then : {C : ℤ} {f g : ℕ → ℤ} {B D E k : ℕ} {s : ℤ} → Partial C f B D k s → Partial (C +ℤ sumZ k f) g (B + k * D) E 0 s
-then h = begun (h .is) (h .bound)

@@ -7,6 +7,7 @@ use lib.ListN.{getD}
 use lib.IntN.{pos, natAbs, _+ℤ_}
 use mir.Facts.{toZ-ofZ}
 use Rattle.laws.proofs.Ints.{abs-add}
+use Rattle.filter.specs.Gathered.{compactBytes}
 use Rattle.filter.proofs.chroma.compact_at.Statement.{statement}
 use Rattle.filter.proofs.chroma.compact_at.Tie as tie
 
@@ -23,7 +24,7 @@ module _ (c : tie.After-moved2) where
   col-is : c .moved2 .result ≡ natAbs (pos (c .before .before .args .x + 2) +ℤ c .before .before .args .dx)
   col-is = c .moved2 .ensures ∙ ap (λ z. natAbs (pos (c .before .before .args .x + 2) +ℤ z)) (toZ-ofZ (c .before .before .fits .dx))
 
-  col-below : c .moved2 .result < 84
+  col-below : c .moved2 .result < compactBytes
   col-below = omega (arith, col-is, abs-add (pos (c .before .before .args .x + 2)) (c .before .before .args .dx), c .before .before .pre)
 
 moved-requires : tie.Need-moved-requires
@@ -45,7 +46,7 @@ element-copy-out-result : tie.Need-element-copy-out-result
 element-copy-out-result c = omega (arith, row-below (c .before), col-below c)
 
 returns : tie.Need-returns
-returns c = (λ i. getD (c .before .before .before .args .compact .now) (84 * row-is (c .before .before) i + col-is (c .before) i) 0)
+returns c = (λ i. getD (c .before .before .before .args .compact .now) (compactBytes * row-is (c .before .before) i + col-is (c .before) i) 0)
 
 pub compact-at-spec : {M : Type 1} → statement M
 compact-at-spec =

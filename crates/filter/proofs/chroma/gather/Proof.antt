@@ -4,13 +4,14 @@ use mathlib.Core.Path.{_≡_, refl}
 use Prim.Native.Nat.{_+_, _-_, _*_, _≤_, zero-le}
 use lib.ListN.{length, getD}
 use lib.Seq.{length-sets}
-use Rattle.filter.specs.Gathered.{Gathered}
+use Rattle.definition.specs.Rows.{lumaRowBytes, lumaRowsAt}
+use Rattle.filter.specs.Gathered.{Gathered, compactSize}
 use Rattle.filter.proofs.Gathering.{none-gathered, one-gathered}
 use Rattle.filter.proofs.chroma.gather.Statement.{statement}
 use Rattle.filter.proofs.chroma.gather.Tie as tie
 
 abbrev Inv-loop : tie.InvT-loop
-Inv-loop rows indices first step n compact₀ k₀ compact k = (length compact ≡ 420) × (k ≤ 5) × Gathered rows indices first step n k compact
+Inv-loop rows indices first step n compact₀ k₀ compact k = (length compact ≡ compactSize) × (k ≤ 5) × Gathered rows indices first step n k compact
 
 abbrev μ-loop : tie.MeasureT-loop
 μ-loop rows indices first step n compact₀ k₀ compact k = 5 - k
@@ -18,7 +19,7 @@ abbrev μ-loop : tie.MeasureT-loop
 -- the row that a turn reads lies inside
 inside : (c : tie.After-row Inv-loop μ-loop) →
     let a = c .before .before .before .before .args in
-    380 + 140 * getD (a .indices .now) (5 + c .before .before .loop .k) 0 + 140 ≤ length (a .rows .now)
+    lumaRowsAt + lumaRowBytes * getD (a .indices .now) (5 + c .before .before .loop .k) 0 + lumaRowBytes ≤ length (a .rows .now)
 inside c = c .before .before .before .before .pre .inside .inside (5 + c .before .before .loop .k) (omega (arith, c .before .loop-test .taken))
 
 loop-holds : tie.Need-loop-holds Inv-loop μ-loop

@@ -5,6 +5,7 @@ use native.Mathlib.Nat.{mul-le-mul, le-refl}
 use mathlib.Core.Path.{_≡_, sym, _∙_}
 use mathlib.Core.Bool.{true}
 use borrow.Author.Tests.{lt-leb, le-leb, not-true, not-false}
+use Rattle.definition.specs.Rows.{stateBytes}
 use Rattle.filter.specs.Runs.{uvStatus}
 use Rattle.filter.specs.Windows.{ownInside}
 use Rattle.filter.proofs.Statuses.{own-window}
@@ -19,7 +20,7 @@ unfolding uvStatus
 returns c = let h = c .before .own-inside in rw (sym (h .ensures) ∙ not-true (h .result) (c .if1 .taken))
 
 -- the first part
-first : (c : tie.Else1) → let a = c .before .before .args in ownInside (a .dst) (a .rows) (a .indices .now) (a .col0) (a .n) 1080 4 2 ≡ true
+first : (c : tie.Else1) → let a = c .before .before .args in ownInside (a .dst) (a .rows) (a .indices .now) (a .col0) (a .n) stateBytes 4 2 ≡ true
 first c = let h = c .before .own-inside in sym (h .ensures) ∙ not-false (h .result) (c .if1 .left)
 
 returns-2 : tie.Need-returns-2
@@ -35,7 +36,7 @@ returns-3 c =
 mul-room : tie.Need-mul-room
 mul-room c =
     let a = c .before .before .before .before .args in
-    let w = own-window (a .dst) (a .rows) (a .indices .now) (a .col0) (a .n) 1080 4 2 (first (c .before .before)) in
+    let w = own-window (a .dst) (a .rows) (a .indices .now) (a .col0) (a .n) stateBytes 4 2 (first (c .before .before)) in
     omega (arith, w .1, mul-le-mul (c .before .if2 .left) (le-refl (a .n)))
 
 room-requires : tie.Need-room-requires

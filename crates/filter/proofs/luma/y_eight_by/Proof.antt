@@ -5,7 +5,7 @@ use mathlib.Core.Path.{ap, _∙_}
 use Prim.Native.Nat.{_+_}
 use lib.IntN.{ℤ}
 use Rattle.definition.specs.Rows.{lumaFlat}
-use Rattle.definition.specs.Sample.{lumaSample}
+use Rattle.definition.specs.Sample.{lumaSample, limit8}
 use Rattle.filter.specs.Runs.{coefficients}
 use Rattle.filter.proofs.luma.y_eight_by.Statement.{statement}
 use Rattle.filter.proofs.luma.y_eight_by.Tie as tie
@@ -16,7 +16,7 @@ y-narrow-eight-requires c κs = let s = c .before .before in (s .pre .0, s .pre 
 returns : tie.Need-returns
 returns c =
     let s = c .before .before .before in
-    λ j h. c .y-narrow-eight .ensures j h ∙ ap (λ (f : List ℤ). lumaSample 255 (lumaFlat (s .args .rows .now) (s .args .indices .now) (s .args .at + j)) (coefficients f)) (s .pre .1 .0)
+    λ j h. c .y-narrow-eight .ensures j h ∙ ap (λ (f : List ℤ). lumaSample limit8 (lumaFlat (s .args .rows .now) (s .args .indices .now) (s .args .at + j)) (coefficients f)) (s .pre .1 .0)
 
 y-eight-requires : tie.Need-y-eight-requires
 y-eight-requires c κs = search needs

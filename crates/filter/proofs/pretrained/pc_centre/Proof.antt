@@ -6,6 +6,7 @@ use lib.Dec.{lit<}
 use lib.IntN.{pos, _*ℤ_}
 use mir.Syntax.{w16, w32}
 use mir.Val.{ofZ}
+use Rattle.definition.specs.Sample.{limit8}
 use Rattle.laws.proofs.Held.{Held, castB, natural, typed, cast, cast-fits, times, times-fits}
 use Rattle.filter.proofs.pretrained.pc_centre.Statement.{statement}
 use Rattle.filter.proofs.pretrained.pc_centre.Tie as tie
@@ -17,7 +18,7 @@ module _ (c : tie.After-centre-at) where
   by : Held w32 (castB w16 w32 (ofZ w16 (start .args .last))) (start .args .last) 32768
   by = cast w32 (typed (start .fits .last)) (lit< tt)
 
-  m : Held w32 (c .centre-at .result) (pos (c .centre-at .result)) 255
+  m : Held w32 (c .centre-at .result) (pos (c .centre-at .result)) limit8
   m = natural (omega (arith, c .centre-at .ok)) (lit< tt)
 
 centre-at-requires : tie.Need-centre-at-requires

@@ -6,7 +6,7 @@ use mir.Syntax.{w32}
 use mir.Val.{toZ, ofZ}
 use mir.Facts.{toZ-ofZ}
 use Rattle.definition.specs.Rows.{lumaFlat}
-use Rattle.definition.specs.Sample.{rounded, pretrainedSample}
+use Rattle.definition.specs.Sample.{rounded, pretrainedSample, limit8}
 use Rattle.filter.specs.Runs.{coefficients}
 use Rattle.filter.proofs.Lessened.{lessened, passed-off}
 use Rattle.filter.proofs.Writes.{Filled, one-filled}
@@ -15,7 +15,7 @@ use Rattle.filter.proofs.pretrained.pc_eight.Tie as tie
 
 abbrev Inv-loop : tie.InvT-loop
 Inv-loop rows indices at filter off out₀ j₀ out j =
-    (j ≤ 8) × Filled (λ (i : ℕ). pretrainedSample 255 (lumaFlat rows indices (at + i)) (coefficients filter)) 8 out j
+    (j ≤ 8) × Filled (λ (i : ℕ). pretrainedSample limit8 (lumaFlat rows indices (at + i)) (coefficients filter)) 8 out j
 
 abbrev μ-loop : tie.MeasureT-loop
 μ-loop rows indices at filter off out₀ j₀ out j = 8 - j
@@ -51,7 +51,7 @@ loop-again : tie.Need-loop-again Inv-loop μ-loop
 loop-again c =
     let l = c .before .before .before .loop in
     let a = c .before .before .before .before .before .args in
-    (omega arith, one-filled (l .inv .1) (c .before .before .loop-test .taken) (c .round-clip .ensures ∙ ap (rounded 255) (back (c .before) ∙ c .before .pc-sum .ensures .sum .is ∙ lessened (lumaFlat (a .rows .now) (a .indices .now) (a .at + l .j)) (coefficients (a .filter .now)))))
+    (omega arith, one-filled (l .inv .1) (c .before .before .loop-test .taken) (c .round-clip .ensures ∙ ap (rounded limit8) (back (c .before) ∙ c .before .pc-sum .ensures .sum .is ∙ lessened (lumaFlat (a .rows .now) (a .indices .now) (a .at + l .j)) (coefficients (a .filter .now)))))
 
 returns : tie.Need-returns Inv-loop μ-loop
 returns c =

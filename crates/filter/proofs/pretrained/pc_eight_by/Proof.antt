@@ -5,7 +5,7 @@ use mathlib.Core.Path.{ap, _∙_}
 use Prim.Native.Nat.{_+_}
 use lib.IntN.{ℤ}
 use Rattle.definition.specs.Rows.{lumaFlat}
-use Rattle.definition.specs.Sample.{pretrainedSample}
+use Rattle.definition.specs.Sample.{pretrainedSample, limit8}
 use Rattle.filter.specs.Runs.{coefficients}
 use Rattle.filter.proofs.Lessened.{passed-off}
 use Rattle.filter.proofs.pretrained.pc_eight_by.Statement.{statement}
@@ -17,7 +17,7 @@ pc-narrow-eight-requires c κs = let s = c .before .before in (s .pre .0, s .pre
 returns : tie.Need-returns
 returns c =
     let s = c .before .before .before in
-    λ j h. c .pc-narrow-eight .ensures j h ∙ ap (λ (f : List ℤ). pretrainedSample 255 (lumaFlat (s .args .rows .now) (s .args .indices .now) (s .args .at + j)) (coefficients f)) (s .pre .1 .1 .0)
+    λ j h. c .pc-narrow-eight .ensures j h ∙ ap (λ (f : List ℤ). pretrainedSample limit8 (lumaFlat (s .args .rows .now) (s .args .indices .now) (s .args .at + j)) (coefficients f)) (s .pre .1 .1 .0)
 
 pc-eight-requires : tie.Need-pc-eight-requires
 pc-eight-requires c κs = let s = c .before .before in (s .pre .0, passed-off (s .fits .off) (s .pre .1 .0))

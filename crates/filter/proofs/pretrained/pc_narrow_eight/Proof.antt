@@ -9,7 +9,7 @@ use mir.Syntax.{w16, w32}
 use mir.Val.{toZ, ofZ}
 use mir.Facts.{toZ-ofZ}
 use Rattle.definition.specs.Rows.{lumaFlat}
-use Rattle.definition.specs.Sample.{rounded, pretrainedSample}
+use Rattle.definition.specs.Sample.{rounded, pretrainedSample, limit8}
 use Rattle.filter.specs.Runs.{coefficients}
 use Rattle.filter.proofs.Writes.{Filled, one-filled}
 use Rattle.filter.proofs.pretrained.pc_narrow_eight.Statement.{statement}
@@ -17,7 +17,7 @@ use Rattle.filter.proofs.pretrained.pc_narrow_eight.Tie as tie
 
 abbrev Inv-loop : tie.InvT-loop
 Inv-loop rows indices at filter last out₀ j₀ out j =
-    (j ≤ 8) × Filled (λ (i : ℕ). pretrainedSample 255 (lumaFlat rows indices (at + i)) (coefficients filter)) 8 out j
+    (j ≤ 8) × Filled (λ (i : ℕ). pretrainedSample limit8 (lumaFlat rows indices (at + i)) (coefficients filter)) 8 out j
 
 abbrev μ-loop : tie.MeasureT-loop
 μ-loop rows indices at filter last out₀ j₀ out j = 8 - j
@@ -65,7 +65,7 @@ loop-less c = omega arith
 loop-again : tie.Need-loop-again Inv-loop μ-loop
 loop-again c =
     let l = c .before .before .before .before .loop in
-    (omega arith, one-filled (l .inv .1) (c .before .before .before .loop-test .taken) (c .round-clip .ensures ∙ ap (rounded 255) (back (c .before) ∙ c .before .pc-narrow-sum .ensures .sum .is)))
+    (omega arith, one-filled (l .inv .1) (c .before .before .before .loop-test .taken) (c .round-clip .ensures ∙ ap (rounded limit8) (back (c .before) ∙ c .before .pc-narrow-sum .ensures .sum .is)))
 
 returns : tie.Need-returns Inv-loop μ-loop
 returns c =

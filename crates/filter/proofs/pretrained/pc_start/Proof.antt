@@ -11,6 +11,7 @@ use Rattle.definition.specs.Sample.{centre}
 use Rattle.laws.proofs.Sums.{begun}
 use Rattle.laws.proofs.Held.{Held, kept, under, plus, plus-fits}
 use Rattle.filter.specs.Runs.{coefficients}
+use Rattle.filter.specs.Windows.{takenOffLimit, centreLimit}
 use Rattle.filter.proofs.pretrained.pc_start.Statement.{statement}
 use Rattle.filter.proofs.pretrained.pc_start.Tie as tie
 
@@ -24,10 +25,10 @@ module _ (c : tie.After-pc-centre) where
   abbrev start : tie.Start
   start = c .before .before .before
 
-  off : Held w32 (ofZ w32 (start .args .off)) (start .args .off) 100270080
+  off : Held w32 (ofZ w32 (start .args .off)) (start .args .off) takenOffLimit
   off = under (kept (start .fits .off)) (start .pre .1 .bound)
 
-  part : Held w32 (ofZ w32 (c .pc-centre .result)) (c .pc-centre .result) 8355840
+  part : Held w32 (ofZ w32 (c .pc-centre .result)) (c .pc-centre .result) centreLimit
   part = under (kept (record { sfits = c .pc-centre .ok })) (c .pc-centre .ensures .1)
 
 add-result : tie.Need-add-result

@@ -5,6 +5,7 @@ use lib.ListN.{getD}
 use lib.IntN.{pos, _-ℤ_, _*ℤ_}
 use mir.Syntax.{w16}
 use mir.Facts.{toZ-ofZ}
+use Rattle.definition.specs.Sample.{limit8}
 use Rattle.filter.proofs.Steps.{stepped-by}
 use Rattle.filter.proofs.pretrained.pc_step.Statement.{statement}
 use Rattle.filter.proofs.pretrained.pc_step.Tie as tie
@@ -28,7 +29,7 @@ returns c =
     let s = c .before .before .before .before in
     let p-is = c .before .before .pc-pair .ensures .is in
     let c-is = toZ-ofZ {w = w16} {z = getD (s .args .filter .now) (s .args .k) (pos 0)} (record { sfits = c .before .pc-tap-arg .given }) in
-    stepped-by (s .pre .1) (s .fits .s) (c .pc-tap .ok) (λ i. (pos (p-is i) -ℤ pos 255) *ℤ c-is i) (c .pc-tap .ensures)
+    stepped-by (s .pre .1) (s .fits .s) (c .pc-tap .ok) (λ i. (pos (p-is i) -ℤ pos limit8) *ℤ c-is i) (c .pc-tap .ensures)
 
 pub pc-step-spec : {M : Type 1} → statement M
 pc-step-spec =

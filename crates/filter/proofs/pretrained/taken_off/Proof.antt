@@ -10,6 +10,7 @@ use lib.ListN.{getD}
 use mir.Syntax.{w16, w32}
 use mir.Val.{ofZ}
 use Rattle.definition.specs.Numbers.{sumZ}
+use Rattle.definition.specs.Sample.{limit8}
 use Rattle.laws.proofs.Held.{Held, castB, natural, typed, cast, cast-fits, plus, plus-fits, times, times-fits}
 use Rattle.filter.specs.Runs.{coefficients}
 use Rattle.filter.proofs.pretrained.taken_off.Statement.{statement}
@@ -66,7 +67,7 @@ whole filter {k = k} h i =
     let e : k ≡ 12 = omega (arith, i .0) in
     rw e at (i .1)
 
-by : Held w32 255 (pos 255) 255
+by : Held w32 limit8 (pos limit8) limit8
 by = natural (lit≤ tt) (lit< tt)
 
 mul-result : tie.Need-mul-result Inv-loop μ-loop

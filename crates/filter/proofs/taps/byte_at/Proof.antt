@@ -6,6 +6,7 @@ use Prim.Native.Nat.{_+_, _*_, _<_, _≤_}
 use lib.ListN.{length, getD}
 use lib.IntN.{pos, natAbs, _+ℤ_}
 use mir.Facts.{toZ-ofZ}
+use Rattle.definition.specs.Rows.{indexCount}
 use Rattle.laws.proofs.Ints.{abs-add}
 use Rattle.filter.proofs.taps.byte_at.Statement.{statement}
 use Rattle.filter.proofs.taps.byte_at.Tie as tie
@@ -15,7 +16,7 @@ module _ (c : tie.After-moved) where
   row-is : c .moved .result ≡ natAbs (pos (c .before .before .args .mid) +ℤ c .before .before .args .dy)
   row-is = c .moved .ensures ∙ ap (λ z. natAbs (pos (c .before .before .args .mid) +ℤ z)) (toZ-ofZ (c .before .before .fits .dy))
 
-  row-below : c .moved .result < 10
+  row-below : c .moved .result < indexCount
   row-below = omega (arith, row-is, abs-add (pos (c .before .before .args .mid)) (c .before .before .args .dy))
 
   inside :

@@ -6,11 +6,12 @@ use Prim.Native.Nat.{ℕ, _*_}
 use lib.Dec.{lit<, lit≤}
 use lib.IntN.{pos}
 use mir.Syntax.{w32}
+use Rattle.definition.specs.Sample.{limit8}
 use Rattle.laws.proofs.Held.{Held, natural, times, times-fits}
 use Rattle.filter.proofs.taps.ns_start.Statement.{statement}
 use Rattle.filter.proofs.taps.ns_start.Tie as tie
 
-middle : (c : tie.After-centre-at) → Held w32 (c .centre-at .result) (pos (c .centre-at .result)) 255
+middle : (c : tie.After-centre-at) → Held w32 (c .centre-at .result) (pos (c .centre-at .result)) limit8
 middle c = natural (omega (arith, c .centre-at .ok)) (lit< tt)
 
 weight : Held w32 128 (pos 128) 128

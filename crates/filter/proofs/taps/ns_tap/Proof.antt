@@ -6,15 +6,17 @@ use lib.Dec.{lit<, lit≤}
 use lib.IntN.{natAbs, pos, _-ℤ_, _*ℤ_}
 use mir.Syntax.{w8, w32}
 use mir.Val.{ofZ}
+use Rattle.definition.specs.Sample.{limit8}
 use Rattle.laws.proofs.Held.{Held, subB, mulB, castB, natural, kept, typed, cast, cast-fits, plus, plus-fits, minus, minus-fits, times, times-fits}
+use Rattle.filter.specs.Windows.{pairLimit, nsTapLimit}
 use Rattle.filter.proofs.taps.ns_tap.Statement.{statement}
 use Rattle.filter.proofs.taps.ns_tap.Tie as tie
 
 module _ (c : tie.Start) where
-  p : Held w32 (c .args .p) (pos (c .args .p)) 510
+  p : Held w32 (c .args .p) (pos (c .args .p)) pairLimit
   p = natural (omega arith) (lit< tt)
 
-  m : Held w32 (c .args .m) (pos (c .args .m)) 255
+  m : Held w32 (c .args .m) (pos (c .args .m)) limit8
   m = natural (omega arith) (lit< tt)
 
   two : Held w32 2 (pos 2) 2
@@ -23,13 +25,13 @@ module _ (c : tie.Start) where
   by : Held w32 (castB w8 w32 (ofZ w8 (c .args .c))) (c .args .c) 128
   by = cast w32 (typed (c .fits .c)) (lit< tt)
 
-  diff : Held w32 (subB w32 (c .args .p) (mulB w32 2 (c .args .m))) (pos (c .args .p) -ℤ pos (2 * c .args .m)) 1020
+  diff : Held w32 (subB w32 (c .args .p) (mulB w32 2 (c .args .m))) (pos (c .args .p) -ℤ pos (2 * c .args .m)) (2 * pairLimit)
   diff = minus p (times two m (lit< tt)) (lit< tt)
 
-  prod : Held w32 (mulB w32 (subB w32 (c .args .p) (mulB w32 2 (c .args .m))) (castB w8 w32 (ofZ w8 (c .args .c)))) ((pos (c .args .p) -ℤ pos (2 * c .args .m)) *ℤ c .args .c) 130560
+  prod : Held w32 (mulB w32 (subB w32 (c .args .p) (mulB w32 2 (c .args .m))) (castB w8 w32 (ofZ w8 (c .args .c)))) ((pos (c .args .p) -ℤ pos (2 * c .args .m)) *ℤ c .args .c) nsTapLimit
   prod = times diff by (lit< tt)
 
-  room : natAbs (c .args .s) + 130560 < 2147483648
+  room : natAbs (c .args .s) + nsTapLimit < 2147483648
   room = omega (arith, c .pre)
 
 cast-result : tie.Need-cast-result

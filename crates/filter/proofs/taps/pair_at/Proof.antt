@@ -7,7 +7,7 @@ use lib.IntN.{ℤ, pos, negℤ, natAbs, _-ℤ_, +ℤ-idl}
 use mir.Syntax.{w8}
 use mir.Val.{SFits, toZ, ofZ}
 use mir.Facts.{toZ-ofZ}
-use Rattle.definition.specs.Rows.{flatAround}
+use Rattle.definition.specs.Rows.{flatAround, rowBytes}
 use Rattle.laws.proofs.Ints.{sfits-abs, abs-neg}
 use Rattle.filter.specs.Windows.{Spot}
 use Rattle.filter.proofs.taps.pair_at.Statement.{statement}
@@ -54,7 +54,7 @@ add-result c = search needs
 returns : tie.Need-returns
 returns c =
     let s = c .before .before .before in
-    let at = flatAround 0 76 (s .args .mid) (s .args .rows .now) (s .args .indices .now) (s .args .col) in
+    let at = flatAround 0 rowBytes (s .args .mid) (s .args .rows .now) (s .args .indices .now) (s .args .col) in
     let a-is = c .before .byte-at .ensures ∙ (λ i. at (toZ-ofZ (s .fits .dy) i) (toZ-ofZ (s .fits .dx) i)) in
     let b-is = c .byte-at2 .ensures ∙ (λ i. at (turned (s .args .dy) (s .fits .dy) (omega arith) i) (turned (s .args .dx) (s .fits .dx) (omega arith) i)) in
     record { is = λ i. a-is i + b-is i; bound = omega (arith, c .before .byte-at .ok, c .byte-at2 .ok) }

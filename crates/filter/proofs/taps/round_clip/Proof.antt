@@ -8,9 +8,9 @@ use mir.Syntax.{w32}
 use mir.Val.{toZ, ofZ}
 use mir.Facts.{toZ-ofZ}
 use Rattle.definition.specs.Numbers.{clipTo}
-use Rattle.definition.specs.Sample.{rounded}
-use Rattle.laws.proofs.Held.{kept, natural, plus, plus-fits, shifted}
-use Rattle.laws.proofs.Rounding.{held}
+use Rattle.definition.specs.Sample.{rounded, limit8}
+use Rattle.laws.proofs.Held.{kept, natural, plus-fits}
+use Rattle.laws.proofs.Rounding.{held-is}
 use borrow.Author.Needs.{needs}
 use Rattle.filter.proofs.taps.round_clip.Statement.{statement}
 use Rattle.filter.proofs.taps.round_clip.Tie as tie
@@ -22,11 +22,8 @@ clipped-requires : tie.Need-clipped-requires
 clipped-requires c κs = search needs
 
 module _ (c : tie.After-clipped) where
-  held-is : held (c .before .args .s) ≡ shrZ (c .before .args .s +ℤ pos 64) 128
-  held-is = shifted 128 (plus (kept (c .before .fits .s)) (natural {n = 64} {B = 64} (lit≤ tt) (lit< tt)) (omega arith)) (omega arith) .is
-
-  back : toZ w32 (ofZ w32 (c .clipped .result)) ≡ pos (clipTo 255 (shrZ (c .before .args .s +ℤ pos 64) 128))
-  back = toZ-ofZ {w = w32} (record { sfits = c .clipped .ok }) ∙ c .clipped .ensures ∙ ap (λ (z : ℤ). pos (clipTo 255 z)) held-is
+  back : toZ w32 (ofZ w32 (c .clipped .result)) ≡ pos (clipTo limit8 (shrZ (c .before .args .s +ℤ pos 64) 128))
+  back = toZ-ofZ {w = w32} (record { sfits = c .clipped .ok }) ∙ c .clipped .ensures ∙ ap (λ (z : ℤ). pos (clipTo limit8 z)) (held-is (c .before .args .s) (c .before .fits .s) (c .before .pre))
 
 cast-result : tie.Need-cast-result
 cast-result c = rw (back c) (tt, record { fits = omega arith })
