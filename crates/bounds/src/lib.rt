@@ -1,4 +1,4 @@
-// Tests of places against lengths, and the lesser and the larger of two, for all 64-bit numbers: nothing wraps.
+// Tests of places against lengths, the lesser and the larger of two, and a byte as a place, for all 64-bit numbers: nothing wraps.
 ghost use mathlib.Core.Path.{_≡_};
 ghost use Prim.Native.Nat.{_+_, min, max};
 ghost use lib.Dec.{leb};
@@ -43,4 +43,10 @@ pub fn larger(a: usize, b: usize) -> usize
     ensures { λ r. ⌜ r ≡ max a b ⌝ }
 {
     if a < b { b } else { a }
+}
+
+pub fn wide(x: u8) -> usize
+    ensures { λ r. ⌜ r ≡ x ⌝ }
+{
+    x as usize
 }

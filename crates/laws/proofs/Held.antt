@@ -1,5 +1,5 @@
 -- What a signed local of width w holds: `Held w n z B` says that the bits n are those of the integer z, which is at most B from 0.
--- A rule for each cast and each operation: that the machine's check passes (`-fits`), and what the result holds. The bounds add and
+-- A rule for each cast and each step of arithmetic: that the machine's check passes (`-fits`), and what the result holds. The bounds add and
 -- multiply, so a side condition is a comparison of literals, or `omega`'s.
 use mathlib.Core.Path.{_≡_, _∙_}
 use Prim.Native.Nat.{ℕ, _+_, _*_, _^_, _<_, _≤_}
@@ -15,7 +15,7 @@ pub record Held (w : Width) (n : ℕ) (z : ℤ) (B : ℕ) : Type 0 where
   pub is : toZ w n ≡ z
   pub bound : natAbs z ≤ B
 
--- the bits that an operation of the machine gives
+-- the bits that the machine's arithmetic gives
 abbrev pub addB : Width → ℕ → ℕ → ℕ
 addB w m n = ofZ w (toZ w m +ℤ toZ w n)
 

@@ -15,43 +15,6 @@ use crate::beside::copy_into;
 use crate::beside::has_left;
 use crate::beside::has_right;
 
-// The part of the luma plane, or of a saved border, that one luma row is padded from.
-fn luma_row<'a>(plane: &'a [u8], saved: &'a [u8], from_saved: bool, at: usize, n: usize) -> &'a [u8]
-    requires { ⌜ at + n ≤ length (source «from_saved» (now plane) (now saved)) ⌝ }
-    ensures { λ r. ⌜ now r ≡ take n (drop at (source «from_saved» (now (plane .entry)) (now (saved .entry)))) ⌝ }
-{
-    if from_saved {
-        &saved[at..at + n]
-    } else {
-        &plane[at..at + n]
-    }
-}
-
-// What stands at one column, for an upper row and a lower one a stride below it.
-fn luma_at(row: &[u8], at: usize, stride: usize, ss_ver: usize, kind: usize) -> u8
-    requires { ⌜ at + lowerAt «ss_ver» kind stride < length (now row) ⌝ }
-    requires { ⌜ (evenOnly «ss_ver» kind ≡ true → at + 1 + stride < length (now row)) ⌝ }
-    ensures { λ r. ⌜ r ≡ mixed «ss_ver» kind (rowAt (now (row .entry)) (pos 0)) (rowAt (now (row .entry)) (pos stride)) (pos at) ⌝ }
-{
-    let a = row[at];
-    if ss_ver == 0 {
-        return a;
-    }
-    if 1 < kind {
-        return a;
-    }
-    let below = at + stride;
-    let b = row[below];
-    if kind == 1 {
-        return ((a as u16 + b as u16) / 2) as u8;
-    }
-    let next = at + 1;
-    let next_below = next + stride;
-    let c = row[next];
-    let d = row[next_below];
-    ((a as u16 + b as u16 + c as u16 + d as u16) / 4) as u8
-}
-
 // 2 where only even columns are filled.
 fn step_of(ss_ver: usize, kind: usize) -> usize
     ensures { λ r. ⌜ r ≡ cond (evenOnly «ss_ver» kind) 2 1 ⌝ }
@@ -63,28 +26,6 @@ fn step_of(ss_ver: usize, kind: usize) -> usize
         return 2;
     }
     1
-}
-
-// n columns of a luma row to dst at `at`, every second one where step is 2.
-fn luma_mixed(
-    dst: &mut [u8],
-    at: usize,
-    row: &[u8],
-    stride: usize,
-    n: usize,
-    ss_ver: usize,
-    kind: usize,
-)
-    requires { ⌜ (at + n ≤ length (now dst)) × (n + lowerAt «ss_ver» kind stride ≤ length (now row)) ⌝ }
-    requires { ⌜ (evenOnly «ss_ver» kind ≡ true → n % 2 ≡ 0) ⌝ }
-    ensures { λ _. ⌜ now (dst .exit) ≡ columns (now (dst .entry)) at n «ss_ver» kind (λ j. mixed «ss_ver» kind (rowAt (now (row .entry)) (pos 0)) (rowAt (now (row .entry)) (pos stride)) (pos j)) ⌝ }
-{
-    let step = step_of(ss_ver, kind);
-    let mut j = 0;
-    while j < n {
-        dst[at + j] = luma_at(row, j, stride, ss_ver, kind);
-        j += step;
-    }
 }
 
 fn lower_at(ss_ver: usize, kind: usize, stride: usize) -> usize
@@ -99,40 +40,6 @@ fn lower_at(ss_ver: usize, kind: usize, stride: usize) -> usize
     stride
 }
 
-// The same: where one row of luma gives each byte, they are copied.
-fn luma_into(
-    dst: &mut [u8],
-    at: usize,
-    row: &[u8],
-    stride: usize,
-    n: usize,
-    ss_ver: usize,
-    kind: usize,
-)
-    requires { ⌜ (at + n ≤ length (now dst)) × (n + lowerAt «ss_ver» kind stride ≤ length (now row)) ⌝ }
-    requires { ⌜ (evenOnly «ss_ver» kind ≡ true → n % 2 ≡ 0) ⌝ }
-    ensures { λ _. ⌜ now (dst .exit) ≡ columns (now (dst .entry)) at n «ss_ver» kind (λ j. mixed «ss_ver» kind (rowAt (now (row .entry)) (pos 0)) (rowAt (now (row .entry)) (pos stride)) (pos j)) ⌝ }
-{
-    if lower_at(ss_ver, kind, 1) == 0 {
-        copy_into(dst, at, row, 0, n);
-    } else {
-        luma_mixed(dst, at, row, stride, n, ss_ver, kind);
-    }
-}
-
-// Four columns beside a luma row that repeat one byte.
-fn repeat_into(dst: &mut [u8], at: usize, v: u8, ss_ver: usize, kind: usize)
-    requires { ⌜ at + 4 ≤ length (now dst) ⌝ }
-    ensures { λ _. ⌜ now (dst .exit) ≡ repeated (now (dst .entry)) at v «ss_ver» kind ⌝ }
-{
-    let step = step_of(ss_ver, kind);
-    let mut j = 0;
-    while j < 4 {
-        dst[at + j] = v;
-        j += step;
-    }
-}
-
 // Columns that are left over where luma is sampled by ss_hor + 1: a division by a number that is not known would cost more than the row.
 fn left_over(w: usize, ss_hor: usize) -> usize
     requires { ⌜ «ss_hor» ≤ 1 ⌝ }
@@ -142,6 +49,17 @@ fn left_over(w: usize, ss_hor: usize) -> usize
         return 0;
     }
     w % 2
+}
+
+// The last luma column that is sampled.
+fn last_sampled(ss_hor: usize, w: usize) -> usize
+    requires { ⌜ «ss_hor» + 1 ≤ w ⌝ }
+    ensures { λ r. ⌜ r ≡ lastSampled «ss_hor» w ⌝ }
+{
+    if ss_hor == 0 {
+        return w - 1;
+    }
+    w - 2
 }
 
 pub fn luma_status(
@@ -190,17 +108,6 @@ pub fn luma_status(
     0
 }
 
-// The last luma column that is sampled.
-fn last_sampled(ss_hor: usize, w: usize) -> usize
-    requires { ⌜ «ss_hor» + 1 ≤ w ⌝ }
-    ensures { λ r. ⌜ r ≡ lastSampled «ss_hor» w ⌝ }
-{
-    if ss_hor == 0 {
-        return w - 1;
-    }
-    w - 2
-}
-
 // The length of the slice that the row is a part of.
 pub fn source_len<'a>(plane: &'a [u8], saved: &'a [u8], from_saved: bool) -> usize
     ensures { λ r. ⌜ r ≡ length (source «from_saved» (now (plane .entry)) (now (saved .entry))) ⌝ }
@@ -209,6 +116,99 @@ pub fn source_len<'a>(plane: &'a [u8], saved: &'a [u8], from_saved: bool) -> usi
         return saved.len();
     }
     plane.len()
+}
+
+// The part of the luma plane, or of a saved border, that one luma row is padded from.
+fn luma_row<'a>(plane: &'a [u8], saved: &'a [u8], from_saved: bool, at: usize, n: usize) -> &'a [u8]
+    requires { ⌜ at + n ≤ length (source «from_saved» (now plane) (now saved)) ⌝ }
+    ensures { λ r. ⌜ now r ≡ take n (drop at (source «from_saved» (now (plane .entry)) (now (saved .entry)))) ⌝ }
+{
+    if from_saved {
+        &saved[at..at + n]
+    } else {
+        &plane[at..at + n]
+    }
+}
+
+// What stands at one column, for an upper row and a lower one a stride below it.
+fn luma_at(row: &[u8], at: usize, stride: usize, ss_ver: usize, kind: usize) -> u8
+    requires { ⌜ at + lowerAt «ss_ver» kind stride < length (now row) ⌝ }
+    requires { ⌜ (evenOnly «ss_ver» kind ≡ true → at + 1 + stride < length (now row)) ⌝ }
+    ensures { λ r. ⌜ r ≡ mixed «ss_ver» kind (rowAt (now (row .entry)) (pos 0)) (rowAt (now (row .entry)) (pos stride)) (pos at) ⌝ }
+{
+    let a = row[at];
+    if ss_ver == 0 {
+        return a;
+    }
+    if 1 < kind {
+        return a;
+    }
+    let below = at + stride;
+    let b = row[below];
+    if kind == 1 {
+        return ((a as u16 + b as u16) / 2) as u8;
+    }
+    let next = at + 1;
+    let next_below = next + stride;
+    let c = row[next];
+    let d = row[next_below];
+    ((a as u16 + b as u16 + c as u16 + d as u16) / 4) as u8
+}
+
+// n columns of a luma row to dst at `at`, every second one where step is 2.
+fn luma_mixed(
+    dst: &mut [u8],
+    at: usize,
+    row: &[u8],
+    stride: usize,
+    n: usize,
+    ss_ver: usize,
+    kind: usize,
+)
+    requires { ⌜ (at + n ≤ length (now dst)) × (n + lowerAt «ss_ver» kind stride ≤ length (now row)) ⌝ }
+    requires { ⌜ (evenOnly «ss_ver» kind ≡ true → n % 2 ≡ 0) ⌝ }
+    ensures { λ _. ⌜ now (dst .exit) ≡ columns (now (dst .entry)) at n «ss_ver» kind (λ j. mixed «ss_ver» kind (rowAt (now (row .entry)) (pos 0)) (rowAt (now (row .entry)) (pos stride)) (pos j)) ⌝ }
+{
+    let step = step_of(ss_ver, kind);
+    let mut j = 0;
+    while j < n {
+        dst[at + j] = luma_at(row, j, stride, ss_ver, kind);
+        j += step;
+    }
+}
+
+// The same: where one row of luma gives each byte, they are copied.
+fn luma_into(
+    dst: &mut [u8],
+    at: usize,
+    row: &[u8],
+    stride: usize,
+    n: usize,
+    ss_ver: usize,
+    kind: usize,
+)
+    requires { ⌜ (at + n ≤ length (now dst)) × (n + lowerAt «ss_ver» kind stride ≤ length (now row)) ⌝ }
+    requires { ⌜ (evenOnly «ss_ver» kind ≡ true → n % 2 ≡ 0) ⌝ }
+    ensures { λ _. ⌜ now (dst .exit) ≡ columns (now (dst .entry)) at n «ss_ver» kind (λ j. mixed «ss_ver» kind (rowAt (now (row .entry)) (pos 0)) (rowAt (now (row .entry)) (pos stride)) (pos j)) ⌝ }
+{
+    if lower_at(ss_ver, kind, 1) == 0 {
+        copy_into(dst, at, row, 0, n);
+    } else {
+        luma_mixed(dst, at, row, stride, n, ss_ver, kind);
+    }
+}
+
+// Four columns beside a luma row that repeat one byte.
+fn repeat_into(dst: &mut [u8], at: usize, v: u8, ss_ver: usize, kind: usize)
+    requires { ⌜ at + 4 ≤ length (now dst) ⌝ }
+    ensures { λ _. ⌜ now (dst .exit) ≡ repeated (now (dst .entry)) at v «ss_ver» kind ⌝ }
+{
+    let step = step_of(ss_ver, kind);
+    let mut j = 0;
+    while j < 4 {
+        dst[at + j] = v;
+        j += step;
+    }
 }
 
 // Four columns before a luma row, where none are lent: its first one repeats.
