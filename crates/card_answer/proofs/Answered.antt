@@ -12,17 +12,16 @@ use lib.ListN.{length, getD, take, drop, replicate, length-append, List·getD-ap
 use lib.Seq.{sets-eq, getD-append-add}
 use Rattle.definition.specs.Blocks.{side, piecesOf}
 use Rattle.definition.specs.Refusals.{sized}
-use Rattle.definition.specs.Limits.{widthLimit, heightLimit}
-use Rattle.definition.specs.Card.{Meaning, whole, refused, meaning, joined, spread, restoredPlane, filtered, headText, rowsText, statusName, filteredName, lineText, printed, cardAnswer}
+use Rattle.definition.specs.Limits.{widthLimit, heightLimit, blockRowLimit}
+use Rattle.definition.specs.Card.{Meaning, unit, refused, meaning, joined, spread, restoredPlane, filtered, headText, rowsText, statusName, filteredName, lineText, printed, cardAnswer}
 use Rattle.laws.proofs.Lists.{tab-cong}
-use Rattle.card_reader.proofs.Cards.{sized-le}
+use Rattle.card_laws.specs.Sizes.{planeSize}
+use Rattle.card_laws.proofs.Planes.{front, drop-zeros}
+use Rattle.card_laws.proofs.Fine.{Fine, meaning-fine, refusing-above, sized-le}
 use Rattle.card_reader.specs.Answers.{cardOf, filled}
 use Rattle.card_reader.specs.declared.Card.{Card}
-use Rattle.card_reader.proofs.Places.{front}
-use Rattle.card_reader.proofs.Meanings.{drop-zeros}
-use Rattle.card_answer.specs.Answers.{Answers, planeOf, unitText}
+use Rattle.card_answer.specs.Answers.{Answers, textSize, planeOf, unitText}
 use Rattle.card_answer.specs.Put.{Put}
-use Rattle.card_answer.proofs.Fine.{Fine, meaning-fine}
 use Rattle.card_answer.proofs.Texts.{line-short, head-short, rows-short}
 
 abbrev blank : ℕ → List ℕ
@@ -50,12 +49,14 @@ filled-at n i l = go (ltb i (length l)) refl
         sym (List·getD-eq-default l 0 h)
 
 spread-filled : (n : ℕ) (skip : List ℕ) → spread (filled 0 n skip) ≡ spread skip
-spread-filled n skip = tab-cong 64 (λ i. cond (eqb (i % 4) 0) (getD (filled 0 n skip) (i / 4) 0) 0) (λ i. cond (eqb (i % 4) 0) (getD skip (i / 4) 0) 0) (λ i l. ap (λ v. cond (eqb (i % 4) 0) v 0) (filled-at n (i / 4) skip))
+spread-filled n skip =
+    tab-cong heightLimit (λ i. cond (eqb (i % side) 0) (getD (filled 0 n skip) (i / side) 0) 0) (λ i. cond (eqb (i % side) 0) (getD skip (i / side) 0) 0)
+    (λ i l. ap (λ v. cond (eqb (i % side) 0) v 0) (filled-at n (i / side) skip))
 
 -- a card with another status than 0
 pub declined : (m : Meaning) → cardOf m .status ≢ 0 → headText (cardOf m .status) 0 ≡ printed m
 unfolding cardOf printed
-declined (whole u) h = absurd (h refl)
+declined (unit u at) h = absurd (h refl)
 declined (refused status) h = refl
 
 -- a card with status 0, and its unit
@@ -68,44 +69,44 @@ pub record Taken (m : Meaning) : Type 0 where
 
 pub taken : (m : Meaning) → Fine m → cardOf m .status ≡ 0 → Taken m
 unfolding cardOf printed unitText planeOf restoredPlane filtered
-taken (refused status) f e = absurd (omega (arith, f, e))
-taken (whole u) g e =
+taken (refused status) f e = absurd (omega (arith, refusing-above status f, e))
+taken (unit u at) g e =
     record {
       wide = g .wide;
       high = g .high;
       filter = g .filter;
-      room = omega (arith, g .rows, length-append (joined (u .rows)) (replicate (4096 - length (joined (u .rows))) 0));
-      text = rw (spread-filled 16 (u .skip), front (joined (u .rows)) (replicate (4096 - length (joined (u .rows))) 0) (u .w * u .h) (g .rows));
+      room = omega (arith, g .rows, length-append (joined (u .rows)) (replicate (planeSize - length (joined (u .rows))) 0));
+      text = rw (spread-filled blockRowLimit (u .skip), front (joined (u .rows)) (replicate (planeSize - length (joined (u .rows))) 0) (u .w * u .h) (g .rows));
     }
 
-pub unit-short : (w h : ℕ) (filter : _) (skip plane : List ℕ) → w ≤ 64 → h ≤ 64 → length (unitText w h filter skip plane) ≤ 8535
+pub unit-short : (w h : ℕ) (filter : _) (skip plane : List ℕ) → w ≤ widthLimit → h ≤ heightLimit → length (unitText w h filter skip plane) ≤ textSize
 unfolding unitText
 unit-short w h filter skip plane lw lh =
     let n : ℕ = piecesOf skip (w / side) 0 h in
     let q : List ℕ = planeOf w h filter skip plane in
     omega (arith, length-append (headText 0 n) (rowsText w q h), head-short n, rows-short w q h lw)
 
-pub head-fits : (status : ℕ) → length (headText status 0) ≤ 8535
+pub head-fits : (status : ℕ) → length (headText status 0) ≤ textSize
 head-fits status = omega (arith, length-append (lineText statusName status) (lineText filteredName 0), line-short statusName status, line-short filteredName 0)
 
 -- a text that was put at the start of zeros
-pub answered : (s text : List ℕ) (n : ℕ) (out : List ℕ) → Put text 0 n (replicate 8535 0) out → length text ≤ 8535 → text ≡ printed (meaning s) → Answers s (record { n = n; text = out })
+pub answered : (s text : List ℕ) (n : ℕ) (out : List ℕ) → Put text 0 n (replicate textSize 0) out → length text ≤ textSize → text ≡ printed (meaning s) → Answers s (record { n = n; text = out })
 unfolding cardAnswer
 answered s text n out p l e =
-    let z : length (blank 8535) ≡ 8535 = blank-long 8535 in
+    let z : length (blank textSize) ≡ textSize = blank-long textSize in
     record {
       size = p .place ∙ zero-add (length text) ∙ ap length e;
       text =
-          p .bytes ∙ sets-eq text (blank 8535) 0 (omega (arith, l, z)) ∙ ap (λ t. text ++ t) (ap (λ k. drop k (blank 8535)) (zero-add (length text)) ∙ drop-zeros (length text) 8535 0) ∙
-          ap (λ t. t ++ replicate (8535 - length t) 0) e;
+          p .bytes ∙ sets-eq text (blank textSize) 0 (omega (arith, l, z)) ∙ ap (λ t. text ++ t) (ap (λ k. drop k (blank textSize)) (zero-add (length text)) ∙ drop-zeros (length text) textSize 0) ∙
+          ap (λ t. t ++ replicate (textSize - length t) 0) e;
     }
 
 pub unit-answered : (s : List ℕ) (r : Card) (skip : List ℕ) (n : ℕ) (out : List ℕ) → r ≡ cardOf (meaning s) → r .status ≡ 0 → skip ≡ spread (r .skip) →
-    Put (unitText (r .w) (r .h) (r .filter) skip (take (r .w * r .h) (r .rows))) 0 n (replicate 8535 0) out → Answers s (record { n = n; text = out })
+    Put (unitText (r .w) (r .h) (r .filter) skip (take (r .w * r .h) (r .rows))) 0 n (replicate textSize 0) out → Answers s (record { n = n; text = out })
 unit-answered s r skip n out e z k p =
     let m : Meaning = meaning s in
     let t : Taken m = taken m (meaning-fine s) (rw e at z) in
-    let q : Put (unitText (cardOf m .w) (cardOf m .h) (cardOf m .filter) (spread (cardOf m .skip)) (take (cardOf m .w * cardOf m .h) (cardOf m .rows))) 0 n (replicate 8535 0) out =
+    let q : Put (unitText (cardOf m .w) (cardOf m .h) (cardOf m .filter) (spread (cardOf m .skip)) (take (cardOf m .w * cardOf m .h) (cardOf m .rows))) 0 n (replicate textSize 0) out =
     rw e at (rw k at p) in
     answered s _ n out q
     (unit-short (cardOf m .w) (cardOf m .h) (cardOf m .filter) (spread (cardOf m .skip)) _ (sized-le widthLimit (cardOf m .w) (t .wide)) (sized-le heightLimit (cardOf m .h) (t .high))) (t .text)

@@ -1,4 +1,3 @@
 pub mod Texts
 pub mod Restorations
-pub mod Fine
 pub mod Answered

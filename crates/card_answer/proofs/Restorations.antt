@@ -14,11 +14,10 @@ use Rattle.definition.specs.Rows.{tab}
 use Rattle.definition.specs.Blocks.{side, piecesOf}
 use Rattle.definition.specs.Units.{luma, finalSample}
 use Rattle.definition.specs.Refusals.{sized, outside, unitStatus, unitChecks, sizesOf}
-use Rattle.definition.specs.Limits.{widthLimit, heightLimit}
-use Rattle.laws.proofs.Passes.{both}
+use Rattle.definition.specs.Limits.{widthLimit, heightLimit, strideLimit}
 use Rattle.laws.proofs.Lists.{length-tab, getD-tab}
 use Rattle.laws.proofs.Checks.{cleared}
-use Rattle.card_reader.proofs.Cards.{sized-le}
+use Rattle.card_laws.proofs.Fine.{sized-low, sized-le}
 use Rattle.refusals.specs.Given.{givenOf}
 use Rattle.units.specs.Lent.{lumaLent}
 use Rattle.units.specs.Openings.{numbersY, openStatus}
@@ -26,27 +25,24 @@ use Rattle.whole.specs.Whole.{Whole}
 use Rattle.whole.specs.declared.Restored.{Restored}
 use Rattle.card_answer.specs.Answers.{planeOf}
 
-sized-low : (limit n : ℕ) → sized limit n ≡ true → side ≤ n
-sized-low limit n h = leb-true side n (both (eqb (n % side) 0) (leb side n) (both (eqb (n % side) 0 && leb side n) (leb n limit) h .0) .1)
-
 -- h rows of w samples, w apart, lie inside a plane that is as large as they are
 inside : (w h len : ℕ) → 0 < h → w * h ≤ len → outside len 0 w h w 0 0 ≡ false
 inside w zero len l s = refl
 inside w (suc h) len l s = le-ltb len (0 + h * w + w + 0) (omega (arith, mul-comm w (suc h), suc-mul h w))
 
 module _ (w h : ℕ) (filter : List ℤ) (skip plane : List ℕ) (ow : sized widthLimit w ≡ true) (oh : sized heightLimit h ≡ true) where
-  pub accepted : length filter ≡ 16 → length skip ≡ 64 → w * h ≤ length plane → openStatus luma (numbersY w h 0 w 0 0 0) (lumaLent [] [] [] filter skip) plane ≡ 0
+  pub accepted : length filter ≡ 16 → length skip ≡ heightLimit → w * h ≤ length plane → openStatus luma (numbersY w h 0 w 0 0 0) (lumaLent [] [] [] filter skip) plane ≡ 0
   unfolding unitStatus
   accepted f k p =
-      let lw : w ≤ 64 = sized-le widthLimit w ow in
-      let lh : h ≤ 64 = sized-le heightLimit h oh in
-      let gh : 4 ≤ h = sized-low heightLimit h oh in
+      let lw : w ≤ widthLimit = sized-le widthLimit w ow in
+      let lh : h ≤ heightLimit = sized-le heightLimit h oh in
+      let gh : side ≤ h = sized-low heightLimit h oh in
       cleared (unitChecks luma (givenOf (numbersY w h 0 w 0 0 0)) (sizesOf luma (lumaLent [] [] [] filter skip) plane)) (
         rw ow,
         (
           rw oh,
           (
-            rw (add-zero w, le-ltb w w (omega arith), le-ltb 65536 w (omega arith)),
+            rw (add-zero w, le-ltb w w (omega arith), le-ltb strideLimit w (omega arith)),
             (
               refl,
               (
@@ -57,7 +53,7 @@ module _ (w h : ℕ) (filter : List ℤ) (skip plane : List ℕ) (ow : sized wid
                     refl,
                     (
                       refl,
-                      (rw (k, le-ltb 64 h lh), (rw f, (refl, tt))),
+                      (rw (k, le-ltb heightLimit h lh), (rw f, (refl, tt))),
                     ),
                   ),
                 ),
@@ -78,7 +74,7 @@ plane-is w h q f pw size here =
     ap (λ k. getD q k 0) (sym e) ∙ here (i / w) (i % w) row (mod-lt i pw) ∙ sym (getD-tab (w * h) (λ i. f (i / w) (i % w)) i il))
 
 module _ (w h : ℕ) (filter : List ℤ) (skip p q : List ℕ) (r : Restored) (ow : sized widthLimit w ≡ true) (oh : sized heightLimit h ≡ true)
-    (f : length filter ≡ 16) (k : length skip ≡ 64) (size : length p ≡ w * h) (o : Whole luma r (numbersY w h 0 w 0 0 0) (lumaLent [] [] [] filter skip) p q) where
+    (f : length filter ≡ 16) (k : length skip ≡ heightLimit) (size : length p ≡ w * h) (o : Whole luma r (numbersY w h 0 w 0 0 0) (lumaLent [] [] [] filter skip) p q) where
   zero-status : openStatus luma (numbersY w h 0 w 0 0 0) (lumaLent [] [] [] filter skip) p ≡ 0
   zero-status = accepted w h filter skip p ow oh f k (omega (arith, size))
 
@@ -89,7 +85,7 @@ module _ (w h : ℕ) (filter : List ℤ) (skip p q : List ℕ) (r : Restored) (o
   unfolding planeOf
   restored-plane =
       let l = o .plane zero-status in
-      let gw : 4 ≤ w = sized-low widthLimit w ow in
+      let gw : side ≤ w = sized-low widthLimit w ow in
       plane-is w h q (λ y x. finalSample (givenOf (numbersY w h 0 w 0 0 0)) (lumaLent [] [] [] filter skip) p luma y x) (omega arith) (l .size ∙ size) (l .here)
 
 pub plane-long : (w h : ℕ) (filter : List ℤ) (skip plane : List ℕ) → length (planeOf w h filter skip plane) ≡ w * h

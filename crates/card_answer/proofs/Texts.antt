@@ -8,10 +8,12 @@ use native.Mathlib.Omega.{arith}
 use lib.Dec.{ltb}
 use lib.ListN.{length, getD, set, take, drop, length-append, length-take}
 use lib.Seq.{take-suc, sets}
-use native.Mathlib.Nat.{zero-add, add-mul, one-mul, mul-comm, mul-le-mul, le-refl}
+use native.Mathlib.Nat.{zero-add}
 use Rattle.definition.specs.Rows.{tab}
 use Rattle.laws.proofs.Lists.{sets-more}
 use Rattle.definition.specs.Card.{newline, rowName, glyph, higher, decimalText, lineText, hexText, rowText, rowsText, headText, statusName, filteredName}
+use Rattle.definition.specs.Limits.{widthLimit}
+use Rattle.card_laws.specs.Sizes.{rowLine}
 use Rattle.card_answer.specs.Put.{Put, put-then}
 
 pub higher-short : (d n : ℕ) → length (higher d n) ≤ 1
@@ -64,7 +66,7 @@ pub row-long : (row : List ℕ) → length (rowText row) ≡ 5 + (length row + l
 unfolding rowText
 row-long row = omega (arith, hex-long row, length-append rowName (hexText row), length-append (rowName ++ hexText row) (newline ∷ []))
 
-pub rows-short : (w : ℕ) (plane : List ℕ) (n : ℕ) → w ≤ 64 → length (rowsText w plane n) ≤ n * 133
+pub rows-short : (w : ℕ) (plane : List ℕ) (n : ℕ) → w ≤ widthLimit → length (rowsText w plane n) ≤ n * rowLine
 unfolding rowsText
 rows-short w plane zero h = omega arith
 rows-short w plane (suc n) h =
@@ -76,13 +78,6 @@ pub rows-more : (w at next last n : ℕ) (plane l m o : List ℕ) → Put (rowsT
     Put (rowsText w plane (n + 1)) at last l o
 unfolding rowsText
 rows-more w at next last n plane l m o p q = rw (add-one n) (put-then p q)
-
--- row y lies in a plane of h rows
-pub in-plane : (y w h len : ℕ) → y < h → w * h ≤ len → y * w + w ≤ len
-in-plane y w h len a b =
-    let l : y + 1 ≤ h = omega arith in
-    let k : (y + 1) * w ≤ h * w = mul-le-mul l (le-refl w) in
-    omega (arith, k, mul-comm w h, add-mul y 1 w, one-mul w)
 
 pub head-short : (n : ℕ) → length (headText 0 n) ≤ 23
 unfolding lineText decimalText

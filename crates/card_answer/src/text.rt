@@ -5,6 +5,8 @@ ghost use Prim.Native.Nat.{_+_, _*_, _≤_, _<_};
 ghost use lib.ListN.{length};
 ghost use Rattle.definition.specs.Card.{higher, decimalText, hexText, rowText, rowsText, lineText, headText};
 ghost use Rattle.definition.specs.Card.{glyph as Card·glyph};
+ghost use Rattle.definition.specs.Limits.{widthLimit};
+ghost use Rattle.card_laws.specs.Sizes.{rowLine};
 ghost use Rattle.card_answer.specs.Put.{Put};
 
 fn glyph(d: usize) -> u8
@@ -72,7 +74,7 @@ fn put_line(out: &mut [u8], at: usize, name: &[u8], n: usize) -> usize
 
 // The lines of status and filtered.
 pub fn put_head(out: &mut [u8], status: usize, pieces: usize) -> usize
-    requires { ⌜ length (now out) ≡ 8535 ⌝ }
+    requires { ⌜ 26 ≤ length (now out) ⌝ }
     ensures { λ r. ⌜ Put (headText status pieces) 0 r (now (out .entry)) (now (out .exit)) ⌝ }
 {
     let a = put_line(out, 0, b"status=", status);
@@ -105,8 +107,7 @@ pub fn put_row(out: &mut [u8], at: usize, row: &[u8]) -> usize
 
 // h rows of a plane, w samples each.
 pub fn put_rows(out: &mut [u8], at: usize, w: usize, h: usize, plane: &[u8]) -> usize
-    requires { ⌜ length (now out) ≡ 8535 ⌝ }
-    requires { ⌜ (at ≤ 23) × (w ≤ 64) × (h ≤ 64) × (w * h ≤ length (now plane)) ⌝ }
+    requires { ⌜ (at + h * rowLine ≤ length (now out)) × (w ≤ widthLimit) × (w * h ≤ length (now plane)) ⌝ }
     ensures { λ r. ⌜ Put (rowsText w (now (plane .entry)) h) at r (now (out .entry)) (now (out .exit)) ⌝ }
 {
     let mut next = at;

@@ -5,8 +5,8 @@ use Prim.Native.Nat.{ℕ, _-_, _≤_}
 use native.Mathlib.Omega.{arith}
 use lib.ListN.{length, length-append, replicate}
 use Rattle.definition.specs.Card.{cardAnswer}
-use Rattle.card_answer.specs.Answers.{Answers}
+use Rattle.card_answer.specs.Answers.{Answers, textSize}
 use Rattle.card_answer.specs.declared.Answer.{Answer}
 
 pub within : (s : List ℕ) (r : Answer) → Answers s r → r .n ≤ length (r .text)
-within s r a = omega (arith, a .size, ap length (a .text), length-append (cardAnswer s) (replicate (8535 - length (cardAnswer s)) 0))
+within s r a = omega (arith, a .size, ap length (a .text), length-append (cardAnswer s) (replicate (textSize - length (cardAnswer s)) 0))

@@ -1,4 +1,3 @@
-pub mod Cards
 pub mod Places
 pub mod Planes
 pub mod Meanings

@@ -7,11 +7,11 @@ use Prim.Native.Nat.{ℕ, zero, suc, _+_, _-_, _≤_, _<_}
 use native.Mathlib.Nat.{not-suc-le-zero, le-of-suc-le-suc}
 use native.Mathlib.Omega.{arith}
 use lib.IntN.{ℤ, pos, negsuc, _-ℤ_}
-use lib.ListN.{length, getD, take, drop, drop-of-length-le}
-use lib.Seq.{drop-cons, take-append-seam, drop-append-seam}
+use lib.ListN.{length, getD, drop, drop-of-length-le, List·getD-eq-default}
+use lib.Seq.{drop-cons}
 use native.Mathlib.Numerals.{add-one}
-use borrow.Author.Tests.{eq-eqb, ne-eqb, ltb-false}
-use Rattle.definition.specs.Card.{inputAt, Reading, value, wrong, reading, ended, word, wordAt, decimalAt, tapAt, minus, negated, unsigned}
+use borrow.Author.Tests.{eq-eqb, ne-eqb, ltb-true, ltb-false}
+use Rattle.definition.specs.Card.{inputAt, digitOf, hexOf, Reading, value, wrong, reading, ended, word, wordAt, decimalAt, tapAt, minus, negated, unsigned}
 use Rattle.card_reader.specs.Answers.{numberOf, Below, tapOf, lineOf}
 use Rattle.card_reader.specs.declared.Number.{Number}
 use Rattle.card_reader.specs.declared.Number.the-variants.{Value, Wrong}
@@ -29,6 +29,25 @@ pub getD-inside {ℓ} : {A : Type ℓ} (l : List A) (i : ℕ) (d e : A) → i < 
 getD-inside [] i d e h = absurd (not-suc-le-zero h)
 getD-inside (x ∷ l) zero d e h = refl
 getD-inside (x ∷ l) (suc i) d e h = getD-inside l i d e (le-of-suc-le-suc h)
+
+-- THE END OF THE INPUT: past it stands 256, so a byte that was read, or one of which f says what it does not say of 256, stands before it
+module _ {A : Type 0} (f : ℕ → A) (P : A → Type 0) (past : P (f 256) → ⊥) (s : List ℕ) (p : ℕ) {b : ℕ} {a : A} (is : b ≡ inputAt s p) (found : a ≡ f b) (holds : P a) where
+  inside : p < length s
+  inside = go (ltb p (length s)) refl
+    where
+      go : (t : Bool) → ltb p (length s) ≡ t → p < length s
+      go true e = ltb-true p (length s) e
+      go false e = absurd (past (subst P (found ∙ ap f (is ∙ List·getD-eq-default s 256 (ltb-false p (length s) e))) holds))
+
+module _ (s : List ℕ) (p : ℕ) {b : ℕ} (is : b ≡ inputAt s p) where
+  pub byte-inside : b < 256 → p < length s
+  byte-inside h = inside (λ v. v) (λ v. v < 256) (λ k. omega arith) s p is refl h
+
+  pub digit-inside : {d : ℕ} → d ≡ digitOf b → d ≤ 9 → p < length s
+  digit-inside e h = inside digitOf (λ d. d ≤ 9) (λ k. omega arith) s p is e h
+
+  pub hex-inside : {d : ℕ} → d ≡ hexOf b → d ≤ 15 → p < length s
+  hex-inside e h = inside hexOf (λ d. d ≤ 15) (λ k. omega arith) s p is e h
 
 -- v below 0, by way of 16 bits
 module _ (v : ℕ) (low : 0 < v) (high : v ≤ 128) where
@@ -49,17 +68,17 @@ module _ (v : ℕ) (low : 0 < v) (high : v ≤ 128) where
 
 -- a word, byte by byte
 module _ (s w : List ℕ) (at i : ℕ) (inside : i < length w) where
-  cut : wordAt s (drop i w) (at + i) ≡ reading (ended s (getD w i 0) word (at + i)) (λ _ p. wordAt s (drop (suc i) w) p)
+  cut : wordAt s (drop i w) at ≡ reading (ended s (getD w i 0) word at) (λ _ p. wordAt s (drop (suc i) w) p)
   unfolding wordAt
   cut = rw (drop-cons w i 0 inside)
 
-  pub word-stop : (inputAt s (at + i) ≡ getD w i 0 → ⊥) → wordAt s (drop i w) (at + i) ≡ wrong
+  pub word-stop : (inputAt s at ≡ getD w i 0 → ⊥) → wordAt s (drop i w) at ≡ wrong
   word-stop ne = rw (cut, ne-eqb _ _ ne)
 
-  pub word-step : inputAt s (at + i) ≡ getD w i 0 → wordAt s (drop i w) (at + i) ≡ wordAt s (drop (i + 1) w) (at + (i + 1))
-  word-step e = let a : at + i + 1 ≡ at + suc i = omega arith in rw (cut, eq-eqb _ _ e, add-one i, a)
+  pub word-step : inputAt s at ≡ getD w i 0 → wordAt s (drop i w) at ≡ wordAt s (drop (i + 1) w) (at + 1)
+  word-step e = rw (cut, eq-eqb _ _ e, add-one i)
 
-pub word-end : (s w : List ℕ) (at i : ℕ) → length w ≤ i → wordAt s (drop i w) (at + i) ≡ value word (at + i)
+pub word-end : (s w : List ℕ) (at i : ℕ) → length w ≤ i → wordAt s (drop i w) at ≡ value word at
 unfolding wordAt
 word-end s w at i h = rw (drop-of-length-le w h)
 
@@ -120,10 +139,3 @@ small-tap s end p = choose (eqb (inputAt s p) minus) _ _ (below-zero (decimalAt 
 pub tap-fits : (s : List ℕ) (end p : ℕ) {v : ℤ} {q : ℕ} → tapAt s end p ≡ value v q → SFits w8 v
 unfolding SmallTap
 tap-fits s end p e = subst SmallTap e (small-tap s end p)
-
--- the front of a list that was written, and what is behind it
-pub front {ℓ} : {A : Type ℓ} (l r : List A) (n : ℕ) → length l ≡ n → take n (l ++ r) ≡ l
-front l r n e = rw (sym e) (take-append-seam l r)
-
-pub behind {ℓ} : {A : Type ℓ} (l r : List A) (n : ℕ) → length l ≡ n → drop n (l ++ r) ≡ r
-behind l r n e = rw (sym e) (drop-append-seam l r)

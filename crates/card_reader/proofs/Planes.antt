@@ -1,6 +1,6 @@
 -- Rows that are read one behind the other stand one behind the other in a plane.
 use mathlib.Core.Path.{_≡_, refl, sym, ap, _∙_}
-use mathlib.Core.List.{List, [], _∷_, _++_, append-assoc, append-nil}
+use mathlib.Core.List.{List, [], _∷_, _++_, append-assoc}
 use Prim.Native.Nat.{ℕ, _+_, _*_, _-_, _≤_, _<_}
 use native.Mathlib.Nat.{zero-mul, add-mul, one-mul}
 use native.Mathlib.Omega.{arith}
@@ -8,14 +8,10 @@ use lib.ListN.{length, drop, length-append, length-drop}
 use lib.Seq.{drop-drop}
 use borrow.Rule.Slice.PartMut.{putMid}
 use Rattle.definition.specs.Card.{value, wrong, several, rowAt, rowsAt, joined}
-use Rattle.card_reader.proofs.Cards.{several-none, several-wrong, several-more, several-ends, longer, row-local, itself}
+use Rattle.card_laws.proofs.Several.{several-none, several-wrong, several-more}
+use Rattle.card_laws.proofs.Planes.{joined-more, joined-long, front, behind}
 use Rattle.card_reader.specs.Answers.{joins}
 use Rattle.card_reader.specs.declared.Line.the-variants.{Next, Wrong as LineWrong}
-use Rattle.card_reader.proofs.Places.{front, behind}
-
-joined-more : (rows : List (List ℕ)) (row : List ℕ) → joined (rows ++ (row ∷ [])) ≡ joined rows ++ row
-joined-more [] row = append-nil row
-joined-more (r ∷ rows) row = ap (λ l. r ++ l) (joined-more rows row) ∙ sym (append-assoc r (joined rows) row)
 
 -- y rows of w samples were read, and the next starts at a place
 pub record Joined (s : List ℕ) (w at : ℕ) (p₀ p : List ℕ) (next y : ℕ) : Type 0 where
@@ -48,7 +44,7 @@ module _ (s : List ℕ) (w at : ℕ) (p₀ : List ℕ) where
           record {
             rows = j .rows ++ (row ∷ []);
             values = several-more (λ k. rowAt s w) at y next q (j .rows) row (j .values) e;
-            long = ap length (joined-more (j .rows) row) ∙ length-append (joined (j .rows)) row ∙ omega (arith, j .long, size, add-mul y 1 w, one-mul w);
+            long = joined-long (j .rows) row ∙ omega (arith, j .long, size, add-mul y 1 w, one-mul w);
             plane = put;
           }
 
@@ -59,7 +55,3 @@ module _ (s : List ℕ) (w at : ℕ) (p₀ : List ℕ) where
     pub joined-ends : (h : ℕ) → y ≡ h → joins (rowsAt s w h at) (Next next) p₀ p
     unfolding rowsAt
     joined-ends h e = rw (sym e, j .values) (refl, rw (j .long) (j .plane))
-
-    pub joined-near : w ≤ 64 → next ≤ at + y * 133
-    joined-near h =
-        several-ends 133 (λ k. rowAt s w) (λ k. longer 0 {m = 4 + (w * 2 + 1)} {k = 133} (omega arith) (row-local 0 s s (itself s) w)) y at (j .values)

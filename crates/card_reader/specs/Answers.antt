@@ -4,7 +4,9 @@ use mathlib.Core.List.{List, _++_}
 use Prim.Native.Nat.{ℕ, _-_, _<_}
 use lib.IntN.{ℤ, pos}
 use lib.ListN.{length, replicate, drop}
-use Rattle.definition.specs.Card.{Reading, value, wrong, Meaning, whole, refused, joined}
+use Rattle.definition.specs.Card.{Reading, value, wrong, Meaning, unit, refused, joined}
+use Rattle.definition.specs.Limits.{blockRowLimit}
+use Rattle.card_laws.specs.Sizes.{planeSize}
 use Rattle.card_reader.specs.declared.Number.{Number}
 use Rattle.card_reader.specs.declared.Number.the-variants.{Value, Wrong}
 use Rattle.card_reader.specs.declared.Tap.{Tap}
@@ -44,8 +46,9 @@ joins wrong LineWrong p q = Unit {0}
 
 -- a card that is refused has zeros
 abbrev pub refusedCard : ℕ → Card
-refusedCard status = record { status = status; w = 0; h = 0; filter = replicate 16 (pos 0); skip = replicate 16 0; rows = replicate 4096 0 }
+refusedCard status = record { status = status; next = 0; w = 0; h = 0; filter = replicate 16 (pos 0); skip = replicate blockRowLimit 0; rows = replicate planeSize 0 }
 
 unfoldable pub cardOf : Meaning → Card
-cardOf (whole u) = record { status = 0; w = u .w; h = u .h; filter = u .filter; skip = filled 0 16 (u .skip); rows = filled 0 4096 (joined (u .rows)) }
+cardOf (unit u at) =
+    record { status = 0; next = at; w = u .w; h = u .h; filter = u .filter; skip = filled 0 blockRowLimit (u .skip); rows = filled 0 planeSize (joined (u .rows)) }
 cardOf (refused status) = refusedCard status

@@ -1,11 +1,15 @@
-// Reads document 01's card from a slice, line by line from a place on. Each kind of line has a function, which answers a value and the place
-// behind it, or that the line is not of its form.
+// Reads document 01's card from a slice, line by line from any place on. Each kind of line has a function, which answers a value and the place
+// behind it, or that the line is not of its form. A place moves on only past bytes that stand there, so it never passes the input's end.
+use definition::BLOCK_ROW_LIMIT;
+use definition::HEIGHT_LIMIT;
+use definition::SIDE;
+use definition::WIDTH_LIMIT;
 ghost use mathlib.Core.Path.{_≡_};
-ghost use Prim.Native.Nat.{_+_, _*_, _≤_, _<_};
+ghost use Prim.Native.Nat.{_*_, _≤_, _<_};
 ghost use lib.ListN.{length, take, drop};
-ghost use Rattle.definition.specs.Card.{inputAt, digitOf, hexOf, decimalAt, decimalOf, tapAt, pairAt, groupAt, wordAt, sizeAt, filterAt, skipAt, rowAt, rowsAt, several, endOf, meaning, meaningOfLists};
+ghost use Rattle.definition.specs.Card.{inputAt, digitOf, hexOf, decimalAt, decimalOf, tapAt, pairAt, groupAt, wordAt, sizeAt, filterAt, skipAt, rowAt, rowsAt, several, endOf, listsAt, unitAt, meaning};
 ghost use Rattle.definition.specs.Card.{negated as Card·negated, unsigned as Card·unsigned, word as Card·word};
-ghost use Rattle.definition.specs.Limits.{widthLimit};
+ghost use Rattle.definition.specs.Limits.{widthLimit, heightLimit};
 ghost use Rattle.definition.specs.Refusals.{sized as Refusals·sized};
 ghost use Rattle.card_reader.specs.Answers.{numberOf, Below, tapOf, lineOf, joins, cardOf, refusedCard};
 
@@ -27,14 +31,26 @@ pub enum Line {
     Wrong,
 }
 
-// A card: status 0 and its unit, or a refusal and zeros.
+// The samples of the largest unit.
+pub const PLANE_SIZE: usize = WIDTH_LIMIT * HEIGHT_LIMIT;
+
+// The bytes of the longest line of a row, and of skip groups.
+pub const ROW_LINE: usize = 5 + 2 * WIDTH_LIMIT;
+
+const SKIP_LINE: usize = 5 + 5 * BLOCK_ROW_LIMIT;
+
+// So many bytes decide what an input means: all lines of the largest unit, and one more (`enough` in crates/card_laws/proofs/Reach.antt).
+pub const INPUT_SIZE: usize = 5 + 6 + 6 + 8 + 87 + SKIP_LINE + HEIGHT_LIMIT * ROW_LINE + 1;
+
+// A card: status 0, its unit and the place behind it, or a refusal and zeros.
 pub struct Card {
     pub status: u8,
+    pub next: usize,
     pub w: usize,
     pub h: usize,
     pub filter: [i8; 16],
-    pub skip: [u16; 16],
-    pub rows: [u8; 4096],
+    pub skip: [u16; BLOCK_ROW_LIMIT],
+    pub rows: [u8; PLANE_SIZE],
 }
 
 // The byte at a place; past the end 256, which is no byte.
@@ -57,53 +73,37 @@ fn digit_of(b: usize) -> usize
     b - 48
 }
 
-// One to three digits x, y, z, no leading zero, and the byte that ends them, among b, c, d.
-fn decimal_of(
-    x: usize,
-    y: usize,
-    z: usize,
-    b: usize,
-    c: usize,
-    d: usize,
-    end: usize,
-    at: usize,
-) -> Number
-    requires { ⌜ at ≤ 10000 ⌝ }
-    ensures { λ r. ⌜ numberOf r ≡ decimalOf x y z b c d end at ⌝ }
+// A decimal: one to three digits, no leading zero, and the byte that ends them.
+fn read_decimal(s: &[u8], at: usize, end: u8) -> Number
+    ensures { λ r. ⌜ numberOf r ≡ decimalAt (now (s .entry)) end at ⌝ }
 {
+    let x = digit_of(input_at(s, at));
     if 9 < x {
         return Number::Wrong;
     }
-    if b == end {
+    let b = input_at(s, at + 1);
+    if b == end as usize {
         return Number::Value(x, at + 2);
     }
     if x == 0 {
         return Number::Wrong;
     }
+    let y = digit_of(b);
     if 9 < y {
         return Number::Wrong;
     }
-    if c == end {
+    let c = input_at(s, at + 2);
+    if c == end as usize {
         return Number::Value(10 * x + y, at + 3);
     }
+    let z = digit_of(c);
     if 9 < z {
         return Number::Wrong;
     }
-    if d == end {
-        return Number::Value(100 * x + 10 * y + z, at + 4);
+    if input_at(s, at + 3) != end as usize {
+        return Number::Wrong;
     }
-    Number::Wrong
-}
-
-fn read_decimal(s: &[u8], at: usize, end: usize) -> Number
-    requires { ⌜ at ≤ 10000 ⌝ }
-    ensures { λ r. ⌜ numberOf r ≡ decimalAt (now (s .entry)) end at ⌝ }
-{
-    let a = input_at(s, at);
-    let b = input_at(s, at + 1);
-    let c = input_at(s, at + 2);
-    let d = input_at(s, at + 3);
-    decimal_of(digit_of(a), digit_of(b), digit_of(c), b, c, d, end, at)
+    Number::Value(100 * x + 10 * y + z, at + 4)
 }
 
 // A filter number: it may have a minus, never before 0, and lies in -128 .. 127.
@@ -128,8 +128,7 @@ fn unsigned(v: usize, at: usize) -> Tap
     Tap::Value(v as i8, at)
 }
 
-fn read_tap(s: &[u8], at: usize, end: usize) -> Tap
-    requires { ⌜ at < 10000 ⌝ }
+fn read_tap(s: &[u8], at: usize, end: u8) -> Tap
     ensures { λ r. ⌜ tapOf r ≡ tapAt (now (s .entry)) end at ⌝ }
 {
     if input_at(s, at) == 45 {
@@ -165,7 +164,6 @@ fn hex_of(b: usize) -> usize
 
 // Two hex digits.
 fn read_pair(s: &[u8], at: usize) -> Number
-    requires { ⌜ at ≤ 10000 ⌝ }
     ensures { λ r. ⌜ numberOf r ≡ pairAt (now (s .entry)) at ⌝ }
     ensures { λ r. ⌜ Below 256 r ⌝ }
 {
@@ -181,8 +179,7 @@ fn read_pair(s: &[u8], at: usize) -> Number
 }
 
 // Four hex digits and the byte that ends them.
-fn read_group(s: &[u8], at: usize, end: usize) -> Number
-    requires { ⌜ at ≤ 9000 ⌝ }
+fn read_group(s: &[u8], at: usize, end: u8) -> Number
     ensures { λ r. ⌜ numberOf r ≡ groupAt (now (s .entry)) end at ⌝ }
     ensures { λ r. ⌜ Below 65536 r ⌝ }
 {
@@ -192,7 +189,7 @@ fn read_group(s: &[u8], at: usize, end: usize) -> Number
     let Number::Value(b, last) = read_pair(s, mid) else {
         return Number::Wrong;
     };
-    if input_at(s, last) != end {
+    if input_at(s, last) != end as usize {
         return Number::Wrong;
     }
     Number::Value(256 * a + b, last + 1)
@@ -200,22 +197,22 @@ fn read_group(s: &[u8], at: usize, end: usize) -> Number
 
 // The bytes of a word.
 fn read_word(s: &[u8], at: usize, word: &[u8]) -> Line
-    requires { ⌜ (at ≤ 10000) × (length (now word) ≤ 16) ⌝ }
     ensures { λ r. ⌜ lineOf r Card·word ≡ wordAt (now (s .entry)) (now (word .entry)) at ⌝ }
 {
+    let mut next = at;
     let mut i = 0;
     while i < word.len() {
-        if input_at(s, at + i) != word[i] as usize {
+        if input_at(s, next) != word[i] as usize {
             return Line::Wrong;
         }
+        next += 1;
         i += 1;
     }
-    Line::Next(at + i)
+    Line::Next(next)
 }
 
-// The line of w or h: its name and a decimal.
-fn read_size(s: &[u8], at: usize, name: &[u8]) -> Number
-    requires { ⌜ (at ≤ 9000) × (length (now name) ≤ 16) ⌝ }
+// A line of one number, as w or h: its name, `=` included, and a decimal.
+pub fn read_size(s: &[u8], at: usize, name: &[u8]) -> Number
     ensures { λ r. ⌜ numberOf r ≡ sizeAt (now (s .entry)) (now (name .entry)) at ⌝ }
 {
     let Line::Next(next) = read_word(s, at, name) else {
@@ -225,7 +222,7 @@ fn read_size(s: &[u8], at: usize, name: &[u8]) -> Number
 }
 
 // What ends number k of n: a comma, and byte 10 behind the last.
-fn end_of(n: usize, k: usize) -> usize
+fn end_of(n: usize, k: usize) -> u8
     requires { ⌜ k < n ⌝ }
     ensures { λ r. ⌜ r ≡ endOf n k ⌝ }
 {
@@ -234,7 +231,6 @@ fn end_of(n: usize, k: usize) -> usize
 
 // As many filter numbers as the list is long.
 fn read_taps(s: &[u8], at: usize, filter: &mut [i8]) -> Line
-    requires { ⌜ at + 5 * length (now filter) ≤ 9000 ⌝ }
     ensures { λ r. ⌜ lineOf r (now (filter .exit)) ≡ several (λ k. tapAt (now (s .entry)) (endOf (length (now (filter .entry))) k)) (length (now (filter .entry))) at ⌝ }
 {
     let mut next = at;
@@ -252,7 +248,6 @@ fn read_taps(s: &[u8], at: usize, filter: &mut [i8]) -> Line
 
 // As many skip groups as the list is long.
 fn read_groups(s: &[u8], at: usize, skip: &mut [u16]) -> Line
-    requires { ⌜ at + 5 * length (now skip) ≤ 9000 ⌝ }
     ensures { λ r. ⌜ lineOf r (now (skip .exit)) ≡ several (λ k. groupAt (now (s .entry)) (endOf (length (now (skip .entry))) k)) (length (now (skip .entry))) at ⌝ }
 {
     let mut next = at;
@@ -270,7 +265,6 @@ fn read_groups(s: &[u8], at: usize, skip: &mut [u16]) -> Line
 
 // As many samples as the list is long.
 fn read_samples(s: &[u8], at: usize, row: &mut [u8]) -> Line
-    requires { ⌜ at + 2 * length (now row) ≤ 9000 ⌝ }
     ensures { λ r. ⌜ lineOf r (now (row .exit)) ≡ several (λ k. pairAt (now (s .entry))) (length (now (row .entry))) at ⌝ }
 {
     let mut next = at;
@@ -287,8 +281,7 @@ fn read_samples(s: &[u8], at: usize, row: &mut [u8]) -> Line
 }
 
 // The filter's line: 16 decimals.
-fn read_filter(s: &[u8], at: usize, filter: &mut [i8]) -> Line
-    requires { ⌜ (at ≤ 100) × (length (now filter) ≡ 16) ⌝ }
+pub fn read_filter(s: &[u8], at: usize, filter: &mut [i8; 16]) -> Line
     ensures { λ r. ⌜ lineOf r (now (filter .exit)) ≡ filterAt (now (s .entry)) at ⌝ }
 {
     let Line::Next(next) = read_word(s, at, b"filter=") else {
@@ -299,7 +292,7 @@ fn read_filter(s: &[u8], at: usize, filter: &mut [i8]) -> Line
 
 // The skip line: four hex digits for each of n block rows.
 fn read_skip(s: &[u8], at: usize, n: usize, skip: &mut [u16]) -> Line
-    requires { ⌜ (at ≤ 200) × (length (now skip) ≡ 16) × (n ≤ 16) ⌝ }
+    requires { ⌜ n ≤ length (now skip) ⌝ }
     ensures { λ r. ⌜ lineOf r (take n (now (skip .exit))) ≡ skipAt (now (s .entry)) n at ⌝ }
     ensures { λ r. ⌜ drop n (now (skip .exit)) ≡ drop n (now (skip .entry)) ⌝ }
 {
@@ -311,7 +304,6 @@ fn read_skip(s: &[u8], at: usize, n: usize, skip: &mut [u16]) -> Line
 
 // A row's line: two hex digits for each sample.
 fn read_row(s: &[u8], at: usize, row: &mut [u8]) -> Line
-    requires { ⌜ (at ≤ 8800) × (length (now row) ≤ 64) ⌝ }
     ensures { λ r. ⌜ lineOf r (now (row .exit)) ≡ rowAt (now (s .entry)) (length (now (row .entry))) at ⌝ }
 {
     let Line::Next(next) = read_word(s, at, b"row=") else {
@@ -328,7 +320,7 @@ fn read_row(s: &[u8], at: usize, row: &mut [u8]) -> Line
 
 // h rows of w samples, w apart.
 fn read_rows(s: &[u8], at: usize, w: usize, h: usize, p: &mut [u8]) -> Line
-    requires { ⌜ (at ≤ 250) × (w ≤ 64) × (h ≤ 64) × (length (now p) ≡ 4096) ⌝ }
+    requires { ⌜ w * h ≤ length (now p) ⌝ }
     ensures { λ r. ⌜ joins (rowsAt (now (s .entry)) w h at) r (now (p .entry)) (now (p .exit)) ⌝ }
 {
     let mut next = at;
@@ -337,7 +329,7 @@ fn read_rows(s: &[u8], at: usize, w: usize, h: usize, p: &mut [u8]) -> Line
         let from = y * w;
         let to = from + w;
         let Line::Next(q) = read_row(s, next, &mut p[from..to]) else {
-            return Line::Wrong; // a row is missing, or not of its form
+            return Line::Wrong;
         };
         next = q;
         y += 1;
@@ -350,36 +342,35 @@ fn refused(status: u8) -> Card
 {
     Card {
         status,
+        next: 0,
         w: 0,
         h: 0,
         filter: [0i8; 16],
-        skip: [0u16; 16],
-        rows: [0u8; 4096],
+        skip: [0u16; BLOCK_ROW_LIMIT],
+        rows: [0u8; PLANE_SIZE],
     }
 }
 
-// The lists of a unit of w by h, and the end of the input.
+// The lists of a unit of w by h.
 fn read_lists(s: &[u8], at: usize, w: usize, h: usize) -> Card
-    requires { ⌜ (at ≤ 50) × (w ≤ 64) × (h ≤ 64) ⌝ }
-    ensures { λ r. ⌜ r ≡ cardOf (meaningOfLists (now (s .entry)) w h at) ⌝ }
+    requires { ⌜ (w ≤ widthLimit) × (h ≤ heightLimit) ⌝ }
+    ensures { λ r. ⌜ r ≡ cardOf (listsAt (now (s .entry)) w h at) ⌝ }
 {
     let mut filter = [0i8; 16];
     let Line::Next(p1) = read_filter(s, at, &mut filter) else {
         return refused(14);
     };
-    let mut skip = [0u16; 16];
-    let Line::Next(p2) = read_skip(s, p1, h / 4, &mut skip) else {
+    let mut skip = [0u16; BLOCK_ROW_LIMIT];
+    let Line::Next(p2) = read_skip(s, p1, h / SIDE, &mut skip) else {
         return refused(14);
     };
-    let mut rows = [0u8; 4096];
-    let Line::Next(p3) = read_rows(s, p2, w, h, &mut rows) else {
+    let mut rows = [0u8; PLANE_SIZE];
+    let Line::Next(next) = read_rows(s, p2, w, h, &mut rows) else {
         return refused(14);
     };
-    if p3 != s.len() {
-        return refused(14);
-    }
     Card {
         status: 0,
+        next,
         w,
         h,
         filter,
@@ -388,40 +379,54 @@ fn read_lists(s: &[u8], at: usize, w: usize, h: usize) -> Card
     }
 }
 
-// Whether a width or height is a multiple of 4 in 4 .. 64.
-fn sized(n: usize) -> bool
-    ensures { λ r. ⌜ r ≡ Refusals·sized widthLimit n ⌝ }
+// Whether a width or height is a multiple of 4 from 4 up to its limit.
+fn sized(n: usize, limit: usize) -> bool
+    ensures { λ r. ⌜ r ≡ Refusals·sized limit n ⌝ }
 {
-    if n % 4 != 0 {
+    if n % SIDE != 0 {
         return false;
     }
-    if n < 4 {
+    if n < SIDE {
         return false;
     }
-    n <= 64
+    n <= limit
 }
 
-// Reads a card: document 01's meaning of the bytes.
-pub fn read_card(s: &[u8]) -> Card
-    ensures { λ r. ⌜ r ≡ cardOf (meaning (now (s .entry))) ⌝ }
+// Reads the unit at a place, and tells the place behind it.
+pub fn read_unit(s: &[u8], at: usize) -> Card
+    ensures { λ r. ⌜ r ≡ cardOf (unitAt (now (s .entry)) at) ⌝ }
 {
-    let Line::Next(p1) = read_word(s, 0, b"op=y\n") else {
+    let Line::Next(p1) = read_word(s, at, b"op=y\n") else {
         return refused(14);
     };
     let Number::Value(w, p2) = read_size(s, p1, b"w=") else {
         return refused(14);
     };
-    if !sized(w) {
+    if !sized(w, WIDTH_LIMIT) {
         return refused(1);
     }
     let Number::Value(h, p3) = read_size(s, p2, b"h=") else {
         return refused(14);
     };
-    if !sized(h) {
+    if !sized(h, HEIGHT_LIMIT) {
         return refused(2);
     }
     let Line::Next(p4) = read_word(s, p3, b"edges=0\n") else {
         return refused(14);
     };
     read_lists(s, p4, w, h)
+}
+
+// Reads a card, document 01's meaning of the bytes: a unit that ends where they do.
+pub fn read_card(s: &[u8]) -> Card
+    ensures { λ r. ⌜ r ≡ cardOf (meaning (now (s .entry))) ⌝ }
+{
+    let c = read_unit(s, 0);
+    if c.status != 0 {
+        return c;
+    }
+    if c.next != s.len() {
+        return refused(14);
+    }
+    c
 }

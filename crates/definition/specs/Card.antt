@@ -158,8 +158,9 @@ pub record CardUnit : Type 0 where
   pub skip : List ℕ
   pub rows : List (List ℕ)
 
+-- a unit and the place behind it, or a status
 pub data Meaning : Type 0 where
-  whole : CardUnit → Meaning
+  unit : CardUnit → ℕ → Meaning
   refused : ℕ → Meaning
 
 -- a line that is not of its form ends the reading with 14
@@ -167,27 +168,34 @@ abbrev pub after : {A : Type 0} → Reading A → (A → ℕ → Meaning) → Me
 after (value a at) more = more a at
 after wrong more = refused 14
 
--- missing or further bytes give 14
-unfoldable pub meaningOfLists : List ℕ → ℕ → ℕ → ℕ → Meaning
-meaningOfLists s w h at =
+unfoldable pub listsAt : List ℕ → ℕ → ℕ → ℕ → Meaning
+listsAt s w h at =
     after (filterAt s at) (λ filter p₁.
     after (skipAt s (h / side) p₁) (λ skip p₂.
-    after (rowsAt s w h p₂) (λ rows p₃.
-    cond (eqb p₃ (length s)) (whole (record { w = w; h = h; filter = filter; skip = skip; rows = rows })) (refused 14))))
+    after (rowsAt s w h p₂) (λ rows p₃. unit (record { w = w; h = h; filter = filter; skip = skip; rows = rows }) p₃)))
 
--- a w or h off its limit ends the reading with 1 or 2
-unfoldable pub meaning : List ℕ → Meaning
-meaning s =
-    after (wordAt s opLine 0) (λ _ p₁.
+-- the unit at a place; a w or h off its limit ends the reading with 1 or 2
+unfoldable pub unitAt : List ℕ → ℕ → Meaning
+unitAt s at =
+    after (wordAt s opLine at) (λ _ p₁.
     after (sizeAt s wName p₁) (λ w p₂.
     cond (not (sized widthLimit w)) (refused 1)
     (after (sizeAt s hName p₂) (λ h p₃.
     cond (not (sized heightLimit h)) (refused 2)
-    (after (wordAt s edgesLine p₃) (λ _ p₄. meaningOfLists s w h p₄))))))
+    (after (wordAt s edgesLine p₃) (λ _ p₄. listsAt s w h p₄))))))
+
+-- an input that ends behind its unit; bytes that are left over give 14
+abbrev pub ending : List ℕ → Meaning → Meaning
+ending s (unit u at) = cond (eqb at (length s)) (unit u at) (refused 14)
+ending s (refused status) = refused status
+
+-- a card is a whole input
+unfoldable pub meaning : List ℕ → Meaning
+meaning s = ending s (unitAt s 0)
 
 -- a card's status
 abbrev pub statusOf : Meaning → ℕ
-statusOf (whole u) = 0
+statusOf (unit u at) = 0
 statusOf (refused status) = status
 
 -- THE UNIT'S RESTORATION, without edge bits: the plane is the rows, w bytes apart
@@ -278,7 +286,7 @@ headText status pieces = lineText statusName status ++ lineText filteredName pie
 
 unfoldable pub printed : Meaning → List ℕ
 printed (refused status) = headText status 0
-printed (whole u) = headText 0 (filtered u) ++ rowsText (u .w) (restoredPlane u) (u .h)
+printed (unit u at) = headText 0 (filtered u) ++ rowsText (u .w) (restoredPlane u) (u .h)
 
 -- the answer to a card
 unfoldable pub cardAnswer : List ℕ → List ℕ

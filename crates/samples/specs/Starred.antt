@@ -12,7 +12,7 @@ use Rattle.definition.specs.ClassIndex.{term, bin, feature, skipSum, indexOf, c
 use Rattle.definition.specs.Padding.{mixed}
 use Rattle.definition.specs.Blocks.{clearBelow, piecesOf}
 use Rattle.definition.specs.Units.{sampleAt, classOf, finalSample}
-use Rattle.definition.specs.Card.{ascii, several, wordAt, decimalOf, decimalAt, tapAt, pairAt, groupAt, sizeAt, filterAt, skipAt, rowAt, rowsAt, meaningOfLists, meaning, restoredPlane, filtered, decimalText, rowText, rowsText, lineText, printed, cardAnswer}
+use Rattle.definition.specs.Card.{ascii, several, wordAt, decimalOf, decimalAt, tapAt, pairAt, groupAt, sizeAt, filterAt, skipAt, rowAt, rowsAt, listsAt, unitAt, meaning, restoredPlane, filtered, decimalText, rowText, rowsText, lineText, printed, cardAnswer}
 
 -- what was worked out, and what document 01 says
 infix 20 _is_
@@ -105,5 +105,5 @@ table =
     []
 
 starred : agree table ≡ true
-unfolding agree same table several wordAt decimalOf decimalAt tapAt pairAt groupAt sizeAt filterAt skipAt rowAt rowsAt meaningOfLists meaning restoredPlane filtered decimalText rowText rowsText lineText printed cardAnswer clearBelow piecesOf sampleAt classOf finalSample window below dark flat zeros first centreOnly ones none sumZ sumN rounded term bin feature skipSum indexOf
+unfolding agree same table several wordAt decimalOf decimalAt tapAt pairAt groupAt sizeAt filterAt skipAt rowAt rowsAt listsAt unitAt meaning restoredPlane filtered decimalText rowText rowsText lineText printed cardAnswer clearBelow piecesOf sampleAt classOf finalSample window below dark flat zeros first centreOnly ones none sumZ sumN rounded term bin feature skipSum indexOf
 starred = refl

@@ -4,8 +4,8 @@ use Prim.Native.Nat.{_*_}
 use lib.ListN.{take, drop}
 use lib.Seq.{length-take-le}
 use Rattle.definition.specs.Limits.{widthLimit, heightLimit}
-use Rattle.card_reader.proofs.Cards.{sized-le}
-use Rattle.card_reader.proofs.Places.{front}
+use Rattle.card_laws.proofs.Fine.{sized-le}
+use Rattle.card_laws.proofs.Planes.{front}
 use Rattle.card_answer.specs.Answers.{planeOf, unitText}
 use Rattle.card_answer.specs.Put.{put-then}
 use Rattle.card_answer.proofs.Texts.{head-short}
@@ -49,7 +49,8 @@ put-rows-requires c κs =
     let r = c .before .before .before .before .before .before .before .before .restore in
     let p = c .before .before .before .before .put-head in
     let k = length-take-le (a .args .w * a .args .h) (r .last .1 .1 .1 .1 .0) (omega (arith, r .kept .1 .1 .1 .1 .0, a .pre)) in
-    (p .kept .0 ∙ a .pre .0 .3, (omega (arith, p .ensures .place, head-short (r .result)), sized-le widthLimit (a .args .w) (a .pre .0 .0), sized-le heightLimit (a .args .h) (a .pre .0 .1), omega (arith, k)))
+    let lh = sized-le heightLimit (a .args .h) (a .pre .0 .1) in
+    (omega (arith, p .kept .0, a .pre .0 .3, p .ensures .place, head-short (r .result), lh), sized-le widthLimit (a .args .w) (a .pre .0 .0), omega (arith, k))
 
 -- src/rt:74:1
 same-length : tie.Need-same-length

@@ -7,6 +7,8 @@ use lib.Dec.{eqb}
 use lib.ListN.{getD, replicate}
 use lib.Seq.{sets}
 use Rattle.definition.specs.Rows.{tab}
+use Rattle.definition.specs.Blocks.{side}
+use Rattle.definition.specs.Limits.{heightLimit}
 use Rattle.card_answer.proofs.spread.Statement.{statement}
 use Rattle.card_answer.proofs.spread.Tie as tie
 use Rattle.card_answer.proofs.spread.Reads as reads
@@ -14,10 +16,10 @@ use Rattle.card_answer.proofs.spread.Lts as lts
 use Rattle.card_answer.proofs.skip_at.Reads as skip-at-reads
 
 abbrev Inv-loop : tie.InvT-loop
-Inv-loop skip r₀ i₀ r i = (i ≤ 64) × (r ≡ sets (replicate 64 0) 0 (tab i (λ k. cond (eqb (k % 4) 0) (getD skip (k / 4) 0) 0)))
+Inv-loop skip r₀ i₀ r i = (i ≤ heightLimit) × (r ≡ sets (replicate heightLimit 0) 0 (tab i (λ k. cond (eqb (k % side) 0) (getD skip (k / side) 0) 0)))
 
 abbrev μ-loop : tie.MeasureT-loop
-μ-loop skip r₀ i₀ r i = 64 - i
+μ-loop skip r₀ i₀ r i = heightLimit - i
 
 -- src/rt:38:5
 loop-holds : tie.Need-loop-holds Inv-loop μ-loop
@@ -51,7 +53,7 @@ loop-again c = let l = c .before .before .loop in (omega (arith, c .before .loop
 returns : tie.Need-returns Inv-loop μ-loop
 returns c =
     let l = c .before .loop in
-    let e : l .i ≡ 64 = omega (arith, l .inv .0, c .loop-test .left) in
+    let e : l .i ≡ heightLimit = omega (arith, l .inv .0, c .loop-test .left) in
     rw e at (l .inv .1)
 
 pub spread-spec : {M : Type 1} → statement M

@@ -1,9 +1,8 @@
-use Rattle.card_reader.proofs.Cards.{pair-ends}
 use mathlib.Core.Path.{sym}
 use native.Mathlib.Omega.{arith}
 use borrow.Author.Tests.{eq-eqb, ne-eqb}
 use Rattle.definition.specs.Card.{groupAt}
-use Rattle.card_reader.proofs.Places.{found, missed, under}
+use Rattle.card_reader.proofs.Places.{found, missed, under, byte-inside}
 use borrow.Author.Needs.{needs}
 use Rattle.card_reader.proofs.read_group.Statement.{statement}
 use Rattle.card_reader.proofs.read_group.Tie as tie
@@ -31,7 +30,7 @@ returns c = (rw (missed (c .before .before .read-pair .ensures .0) (c .enum-told
 
 -- src/rt:188:34
 read-pair-requires-2 : tie.Need-read-pair-requires-2
-read-pair-requires-2 c κs = omega (arith, pair-ends _ _ (found (c .before .before .before .read-pair .ensures .0) (c .before .a .given .1)))
+read-pair-requires-2 c κs = search needs
 
 -- src/rt:188:23
 enum-known-b : tie.Need-enum-known-b
@@ -67,18 +66,15 @@ mul-t10 c =
     record { fits = omega (arith, a) }
 
 -- src/rt:194:19
-add-t12 : tie.Need-add-t12
-add-t12 c =
+add-t11 : tie.Need-add-t11
+add-t11 c =
     let a = under 256 (c .before .before .before .before .before .before .before .before .before .read-pair .ensures .1) (c .before .before .before .before .before .before .before .a .given .1) in
     let b = under 256 (c .before .before .before .before .before .read-pair2 .ensures .1) (c .before .before .before .b .given .1) in
     record { fits = omega (arith, a, b) }
 
 -- src/rt:194:32
 add-t13 : tie.Need-add-t13
-add-t13 c =
-    let e = pair-ends _ _ (found (c .before .before .before .before .before .before .before .before .before .read-pair .ensures .0) (c .before .before .before .before .before .before .before .a .given .1)) in
-    let f = pair-ends _ _ (found (c .before .before .before .before .before .read-pair2 .ensures .0) (c .before .before .before .b .given .1)) in
-    record { fits = omega (arith, e, f) }
+add-t13 c = record { fits = omega (arith, byte-inside (c .before .before .before .before .before .before .before .before .before .before .before .args .s .now) (c .before .before .before .b .given .0 .1 .0) (c .before .input-at .ensures) (omega (arith, c .if1 .left))) }
 
 -- src/rt:180:1
 returns-4 : tie.Need-returns-4
@@ -105,6 +101,6 @@ read-group-spec =
     input-at-requires
     returns-3
     mul-t10
-    add-t12
+    add-t11
     add-t13
     returns-4)

@@ -4,7 +4,7 @@ use native.Mathlib.Omega.{arith}
 use Prim.Native.Nat.{_-_}
 use lib.ListN.{length}
 use Rattle.definition.specs.Card.{endOf, groupAt}
-use Rattle.card_reader.proofs.Cards.{Filling, filling-begins, filling-more, filling-stops, filling-ends, filling-near, itself, group-local}
+use Rattle.card_laws.proofs.Several.{Filling, filling-begins, filling-more, filling-stops, filling-ends}
 use Rattle.card_reader.proofs.Places.{found, missed, under}
 use Rattle.card_reader.proofs.read_groups.Statement.{statement}
 use Rattle.card_reader.proofs.read_groups.Tie as tie
@@ -29,10 +29,7 @@ end-of-requires c κs = c .loop-test .taken
 
 -- src/rt:257:35
 read-group-requires : tie.Need-read-group-requires Inv-loop μ-loop
-read-group-requires c κs =
-    let a = c .before .before .before .before .before .args in
-    let l = c .before .before .loop in
-    omega (arith, l .inv .size, c .before .loop-test .taken, filling-near (λ k. groupAt (a .s .now) (endOf (length (a .skip .now)) k)) _ _ (l .skip) (l .next) (l .k) (l .inv) 5 (λ k. group-local 0 (a .s .now) (a .s .now) (itself (a .s .now)) (endOf (length (a .skip .now)) k)))
+read-group-requires c κs = search needs
 
 -- src/rt:257:27
 enum-known-v : tie.Need-enum-known-v Inv-loop μ-loop
@@ -60,7 +57,7 @@ cast-skip c = record { fits = under 65536 (c .before .before .before .read-group
 
 -- src/rt:260:9
 mul-skip : tie.Need-mul-skip Inv-loop μ-loop
-mul-skip c = let l = c .before .before .before .before .before .before .loop in record { fits = omega (arith, l .inv .size, c .before .before .before .before .before .loop-test .taken, c .before .before .before .before .before .before .before .before .before .pre) }
+mul-skip c = let l = c .before .before .before .before .before .before .loop in record { fits = omega (arith, l .inv .size, c .before .before .before .before .before .loop-test .taken) }
 
 -- src/rt:260:9
 slice-write-skip : tie.Need-slice-write-skip Inv-loop μ-loop
@@ -68,7 +65,7 @@ slice-write-skip c = c .before .before .before .before .before .loop-test .taken
 
 -- src/rt:262:9
 add-k : tie.Need-add-k Inv-loop μ-loop
-add-k c = let l = c .before .before .before .before .before .before .loop in record { fits = omega (arith, l .inv .size, c .before .before .before .before .before .loop-test .taken, c .before .before .before .before .before .before .before .before .before .pre) }
+add-k c = let l = c .before .before .before .before .before .before .loop in record { fits = omega (arith, l .inv .size, c .before .before .before .before .before .loop-test .taken) }
 
 -- src/rt:256:5
 loop-less : tie.Need-loop-less Inv-loop μ-loop

@@ -1,7 +1,9 @@
 use mathlib.Core.Path.{sym}
 use native.Mathlib.Omega.{arith}
 use borrow.Author.Tests.{lt-ltb, le-ltb}
+use Prim.Native.Nat.{_+_}
 use Rattle.definition.specs.Card.{pairAt}
+use Rattle.card_reader.proofs.Places.{hex-inside}
 use borrow.Author.Needs.{needs}
 use Rattle.card_reader.proofs.read_pair.Statement.{statement}
 use Rattle.card_reader.proofs.read_pair.Tie as tie
@@ -25,7 +27,7 @@ returns c = (rw (sym (c .before .before .input-at .ensures), sym (c .before .hex
 
 -- src/rt:172:32
 add-input-at : tie.Need-add-input-at
-add-input-at c = search needs
+add-input-at c = let a = c .before .before .before .before .args in record { fits = omega (arith, hex-inside (a .s .now) (a .at) (c .before .before .input-at .ensures) (c .before .hex-of .ensures) (c .if1 .left)) }
 
 -- src/rt:172:20
 input-at-requires-2 : tie.Need-input-at-requires-2
@@ -51,7 +53,7 @@ add-t5 c = search needs
 
 -- src/rt:176:31
 add-t8 : tie.Need-add-t8
-add-t8 c = search needs
+add-t8 c = let a = c .before .before .before .before .before .before .before .args in record { fits = omega (arith, hex-inside (a .s .now) (a .at + 1) (c .before .before .input-at2 .ensures) (c .before .hex-of2 .ensures) (c .if2 .left)) }
 
 -- src/rt:163:1
 returns-3 : tie.Need-returns-3

@@ -1,10 +1,8 @@
 use mathlib.Core.Path.{sym}
 use native.Mathlib.Omega.{arith}
-use lib.ListN.{length}
 use borrow.Author.Tests.{eq-eqb, ne-eqb}
-use Rattle.definition.specs.Card.{rowAt, rowName, pairAt, word}
-use Rattle.card_reader.proofs.Cards.{word-ends, several-ends, pair-local, itself}
-use Rattle.card_reader.proofs.Places.{line-found, line-missed}
+use Rattle.definition.specs.Card.{rowAt, word}
+use Rattle.card_reader.proofs.Places.{line-found, line-missed, byte-inside}
 use borrow.Author.Needs.{needs}
 use Rattle.card_reader.proofs.read_row.Statement.{statement}
 use Rattle.card_reader.proofs.read_row.Tie as tie
@@ -37,8 +35,7 @@ returns c = rw (line-missed word (c .before .before .read-word .ensures) (c .enu
 
 -- src/rt:316:28
 read-samples-requires : tie.Need-read-samples-requires
-read-samples-requires c κs =
-    omega (arith, c .before .before .before .before .before .before .before .before .pre, word-ends _ _ rowName (line-found word (c .before .before .before .before .read-word .ensures) (c .before .before .next .given .1)))
+read-samples-requires c κs = search needs
 
 -- src/rt:316:20
 enum-known-last : tie.Need-enum-known-last
@@ -78,12 +75,7 @@ returns-3 c =
 
 -- src/rt:322:16
 add-t13 : tie.Need-add-t13
-add-t13 c =
-    let a = c .before .before .before .before .before .before .before .before .before .before .before .before .before .before .before .before in
-    let e = word-ends _ _ rowName (line-found word (c .before .before .before .before .before .before .before .before .before .before .before .before .read-word .ensures) (c .before .before .before .before .before .before .before .before .before .before .next .given .1)) in
-    let f = line-found _ (c .before .before .before .before .before .before .before .read-samples .ensures) (c .before .before .before .last .given .1) in
-    let g = several-ends 2 (λ k. pairAt (a .args .s .now)) (λ k. pair-local 0 (a .args .s .now) (a .args .s .now) (itself (a .args .s .now))) (length (a .args .row .now)) _ f in
-    record { fits = omega (arith, a .pre, e, g) }
+add-t13 c = record { fits = omega (arith, byte-inside (c .before .before .before .before .before .before .before .before .before .before .before .before .before .before .before .before .args .s .now) (c .before .before .before .last .given .0 .0) (c .before .input-at .ensures) (omega (arith, c .if1 .left))) }
 
 -- src/rt:309:1
 same-length-3 : tie.Need-same-length-3

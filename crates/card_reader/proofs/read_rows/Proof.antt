@@ -4,8 +4,8 @@ use native.Mathlib.Omega.{arith}
 use Prim.Native.Nat.{_+_, _-_, _*_, _≤_}
 use borrow.Rule.Slice.PartMut.{same-len-mid}
 use Rattle.card_reader.proofs.Places.{line-found, line-missed}
-use Rattle.card_reader.proofs.Planes.{Joined, joined-begins, joined-size, joined-next, joined-stops, joined-ends, joined-near}
-use Rattle.card_reader.proofs.Cards.{room, rows-room, part-long}
+use Rattle.card_reader.proofs.Planes.{Joined, joined-begins, joined-size, joined-next, joined-stops, joined-ends}
+use Rattle.card_laws.proofs.Planes.{in-plane, rows-in-plane, part-long}
 use Rattle.card_reader.proofs.read_rows.Statement.{statement}
 use Rattle.card_reader.proofs.read_rows.Tie as tie
 use Rattle.card_reader.proofs.read_rows.Reads as reads
@@ -24,11 +24,11 @@ loop-holds c = (omega arith, joined-begins _ _ _ _)
 
 -- src/rt:333:20
 mul-from : tie.Need-mul-from Inv-loop μ-loop
-mul-from c = record { fits = omega (arith, room (c .before .loop .y) (c .before .before .before .before .args .w) (c .before .before .before .before .args .h) (c .loop-test .taken) (omega (arith, c .before .before .before .before .pre)) (omega (arith, c .before .before .before .before .pre))) }
+mul-from c = record { fits = omega (arith, in-plane (c .before .loop .y) (c .before .before .before .before .args .w) (c .before .before .before .before .args .h) _ (c .loop-test .taken) (c .before .before .before .before .pre)) }
 
 -- src/rt:334:18
 add-to : tie.Need-add-to Inv-loop μ-loop
-add-to c = record { fits = omega (arith, room (c .before .loop .y) (c .before .before .before .before .args .w) (c .before .before .before .before .args .h) (c .loop-test .taken) (omega (arith, c .before .before .before .before .pre)) (omega (arith, c .before .before .before .before .pre))) }
+add-to c = record { fits = omega (arith, in-plane (c .before .loop .y) (c .before .before .before .before .args .w) (c .before .before .before .before .args .h) _ (c .loop-test .taken) (c .before .before .before .before .pre)) }
 
 -- src/rt:335:47
 sub-read-row : tie.Need-sub-read-row Inv-loop μ-loop
@@ -41,19 +41,13 @@ part-read-row-start c = omega arith
 -- src/rt:335:47
 part-read-row-end : tie.Need-part-read-row-end Inv-loop μ-loop
 part-read-row-end c =
-    let f = room (c .before .loop .y) (c .before .before .before .before .args .w) (c .before .before .before .before .args .h) (c .loop-test .taken) (omega (arith, c .before .before .before .before .pre)) (omega (arith, c .before .before .before .before .pre)) in
+    let f = in-plane (c .before .loop .y) (c .before .before .before .before .args .w) (c .before .before .before .before .args .h) _ (c .loop-test .taken) (c .before .before .before .before .pre) in
     let n = joined-size _ _ _ (c .before .before .before .before .args .p .now) (c .before .loop .p) (c .before .loop .next) (c .before .loop .y) (c .before .loop .inv .1) (omega (arith, f, c .before .before .before .before .pre)) in
     omega (arith, f, n, c .before .before .before .before .pre)
 
 -- src/rt:335:29
 read-row-requires : tie.Need-read-row-requires Inv-loop μ-loop
-read-row-requires c κs =
-    let f = room (c .before .before .loop .y) (c .before .before .before .before .before .args .w) (c .before .before .before .before .before .args .h) (c .before .loop-test .taken) (omega (arith, c .before .before .before .before .before .pre)) (omega (arith, c .before .before .before .before .before .pre)) in
-    let n = joined-size _ _ _ (c .before .before .before .before .before .args .p .now) (c .before .before .loop .p) (c .before .before .loop .next) (c .before .before .loop .y) (c .before .before .loop .inv .1) (omega (arith, f, c .before .before .before .before .before .pre)) in
-    let l = c .before .before .loop in (
-      omega (arith, c .before .loop-test .taken, c .before .before .before .before .before .pre, joined-near _ _ _ _ (l .p) (l .next) (l .y) (l .inv .1) (omega (arith, c .before .before .before .before .before .pre))),
-      omega (arith, c .before .before .before .before .before .pre, part-long (l .y) (c .before .before .before .before .before .args .w) (l .p) (omega (arith, f, n, c .before .before .before .before .before .pre))),
-    )
+read-row-requires c κs = search needs
 
 -- src/rt:335:24
 enum-known-q : tie.Need-enum-known-q Inv-loop μ-loop
@@ -66,14 +60,14 @@ enum-told c = search needs
 -- src/rt:336:13
 same-length : tie.Need-same-length Inv-loop μ-loop
 same-length c =
-    let f = room (c .before .before .before .before .before .before .before .loop .y) (c .before .before .before .before .before .before .before .before .before .before .args .w) (c .before .before .before .before .before .before .before .before .before .before .args .h) (c .before .before .before .before .before .before .loop-test .taken) (omega (arith, c .before .before .before .before .before .before .before .before .before .before .pre)) (omega (arith, c .before .before .before .before .before .before .before .before .before .before .pre)) in
+    let f = in-plane (c .before .before .before .before .before .before .before .loop .y) (c .before .before .before .before .before .before .before .before .before .before .args .w) (c .before .before .before .before .before .before .before .before .before .before .args .h) _ (c .before .before .before .before .before .before .loop-test .taken) (c .before .before .before .before .before .before .before .before .before .before .pre) in
     let n = joined-size _ _ _ (c .before .before .before .before .before .before .before .before .before .before .args .p .now) (c .before .before .before .before .before .before .before .loop .p) (c .before .before .before .before .before .before .before .loop .next) (c .before .before .before .before .before .before .before .loop .y) (c .before .before .before .before .before .before .before .loop .inv .1) (omega (arith, f, c .before .before .before .before .before .before .before .before .before .before .pre)) in
     same-len-mid (c .before .before .before .before .before .before .before .loop .y * c .before .before .before .before .before .before .before .before .before .before .args .w) (c .before .before .before .before .before .before .before .loop .y * c .before .before .before .before .before .before .before .before .before .before .args .w + c .before .before .before .before .before .before .before .before .before .before .args .w - c .before .before .before .before .before .before .before .loop .y * c .before .before .before .before .before .before .before .before .before .before .args .w) (c .before .before .before .before .before .before .before .loop .p) (c .before .before .before .before .read-row .last .1 .1 .0) (c .before .before .before .before .read-row .kept .1 .1 .0) ∙ n
 
 -- src/rt:336:13
 returns : tie.Need-returns Inv-loop μ-loop
 returns c =
-    let f = room (c .before .before .before .before .before .before .before .loop .y) (c .before .before .before .before .before .before .before .before .before .before .args .w) (c .before .before .before .before .before .before .before .before .before .before .args .h) (c .before .before .before .before .before .before .loop-test .taken) (omega (arith, c .before .before .before .before .before .before .before .before .before .before .pre)) (omega (arith, c .before .before .before .before .before .before .before .before .before .before .pre)) in
+    let f = in-plane (c .before .before .before .before .before .before .before .loop .y) (c .before .before .before .before .before .before .before .before .before .before .args .w) (c .before .before .before .before .before .before .before .before .before .before .args .h) _ (c .before .before .before .before .before .before .loop-test .taken) (c .before .before .before .before .before .before .before .before .before .before .pre) in
     let n = joined-size _ _ _ (c .before .before .before .before .before .before .before .before .before .before .args .p .now) (c .before .before .before .before .before .before .before .loop .p) (c .before .before .before .before .before .before .before .loop .next) (c .before .before .before .before .before .before .before .loop .y) (c .before .before .before .before .before .before .before .loop .inv .1) (omega (arith, f, c .before .before .before .before .before .before .before .before .before .before .pre)) in
     let l = c .before .before .before .before .before .before .before .loop in
     let a = c .before .before .before .before .before .before .before .before .before .before .args in
@@ -82,7 +76,7 @@ returns c =
 
 -- src/rt:339:9
 add-y : tie.Need-add-y Inv-loop μ-loop
-add-y c = record { fits = omega (arith, c .before .before .before .before .before .before .before .loop-test .taken, c .before .before .before .before .before .before .before .before .before .before .before .pre) }
+add-y c = record { fits = omega (arith, c .before .before .before .before .before .before .before .loop-test .taken) }
 
 -- src/rt:332:5
 loop-less : tie.Need-loop-less Inv-loop μ-loop
@@ -91,7 +85,7 @@ loop-less c = omega (arith, c .before .before .before .before .before .before .b
 -- src/rt:332:5
 loop-again : tie.Need-loop-again Inv-loop μ-loop
 loop-again c =
-    let f = room (c .before .before .before .before .before .before .before .before .loop .y) (c .before .before .before .before .before .before .before .before .before .before .before .args .w) (c .before .before .before .before .before .before .before .before .before .before .before .args .h) (c .before .before .before .before .before .before .before .loop-test .taken) (omega (arith, c .before .before .before .before .before .before .before .before .before .before .before .pre)) (omega (arith, c .before .before .before .before .before .before .before .before .before .before .before .pre)) in
+    let f = in-plane (c .before .before .before .before .before .before .before .before .loop .y) (c .before .before .before .before .before .before .before .before .before .before .before .args .w) (c .before .before .before .before .before .before .before .before .before .before .before .args .h) _ (c .before .before .before .before .before .before .before .loop-test .taken) (c .before .before .before .before .before .before .before .before .before .before .before .pre) in
     let n = joined-size _ _ _ (c .before .before .before .before .before .before .before .before .before .before .before .args .p .now) (c .before .before .before .before .before .before .before .before .loop .p) (c .before .before .before .before .before .before .before .before .loop .next) (c .before .before .before .before .before .before .before .before .loop .y) (c .before .before .before .before .before .before .before .before .loop .inv .1) (omega (arith, f, c .before .before .before .before .before .before .before .before .before .before .before .pre)) in
     let l = c .before .before .before .before .before .before .before .before .loop in
     let a = c .before .before .before .before .before .before .before .before .before .before .before .args in
@@ -104,7 +98,7 @@ loop-again c =
 same-length-2 : tie.Need-same-length-2 Inv-loop μ-loop
 same-length-2 c =
     let l = c .before .loop in
-    joined-size _ _ _ _ (l .p) (l .next) (l .y) (l .inv .1) (omega (arith, c .before .before .before .before .pre, rows-room (l .y) (c .before .before .before .before .args .w) (c .before .before .before .before .args .h) (l .inv .0) (omega (arith, c .before .before .before .before .pre)) (omega (arith, c .before .before .before .before .pre))))
+    joined-size _ _ _ _ (l .p) (l .next) (l .y) (l .inv .1) (omega (arith, c .before .before .before .before .pre, rows-in-plane (l .y) (c .before .before .before .before .args .w) (c .before .before .before .before .args .h) _ (l .inv .0) (c .before .before .before .before .pre)))
 
 -- src/rt:326:1
 returns-2 : tie.Need-returns-2 Inv-loop μ-loop

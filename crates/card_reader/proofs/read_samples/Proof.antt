@@ -3,7 +3,7 @@ use native.Mathlib.Omega.{arith}
 use Prim.Native.Nat.{_-_}
 use lib.ListN.{length}
 use Rattle.definition.specs.Card.{pairAt}
-use Rattle.card_reader.proofs.Cards.{Filling, filling-begins, filling-more, filling-stops, filling-ends, filling-near, itself, pair-local}
+use Rattle.card_laws.proofs.Several.{Filling, filling-begins, filling-more, filling-stops, filling-ends}
 use Rattle.card_reader.proofs.Places.{found, missed, under}
 use Rattle.card_reader.proofs.read_samples.Statement.{statement}
 use Rattle.card_reader.proofs.read_samples.Tie as tie
@@ -23,10 +23,7 @@ loop-holds c = filling-begins _ _ _
 
 -- src/rt:275:35
 read-pair-requires : tie.Need-read-pair-requires Inv-loop μ-loop
-read-pair-requires c κs =
-    let s = c .before .before .before .before .args .s .now in
-    let l = c .before .loop in
-    omega (arith, l .inv .size, c .loop-test .taken, filling-near (λ k. pairAt s) _ _ (l .row) (l .next) (l .k) (l .inv) 2 (λ k. pair-local 0 s s (itself s)))
+read-pair-requires c κs = search needs
 
 -- src/rt:275:27
 enum-known-v : tie.Need-enum-known-v Inv-loop μ-loop
@@ -56,7 +53,7 @@ slice-write-row c = c .before .before .before .before .loop-test .taken
 
 -- src/rt:280:9
 add-k : tie.Need-add-k Inv-loop μ-loop
-add-k c = record { fits = omega (arith, c .before .before .before .before .before .loop .inv .inside, c .before .before .before .before .before .loop .inv .size, c .before .before .before .before .loop-test .taken, c .before .before .before .before .before .before .before .before .pre) }
+add-k c = record { fits = omega (arith, c .before .before .before .before .before .loop .inv .inside, c .before .before .before .before .before .loop .inv .size, c .before .before .before .before .loop-test .taken) }
 
 -- src/rt:274:5
 loop-less : tie.Need-loop-less Inv-loop μ-loop

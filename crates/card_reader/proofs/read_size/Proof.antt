@@ -1,6 +1,5 @@
 use native.Mathlib.Omega.{arith}
 use Rattle.definition.specs.Card.{sizeAt, word}
-use Rattle.card_reader.proofs.Cards.{word-ends}
 use Rattle.card_reader.proofs.Places.{line-found, line-missed}
 use borrow.Author.Needs.{needs}
 use Rattle.card_reader.proofs.read_size.Statement.{statement}
@@ -29,7 +28,7 @@ returns c = rw (line-missed word (c .before .before .read-word .ensures) (c .enu
 
 -- src/rt:220:5
 read-decimal-requires : tie.Need-read-decimal-requires
-read-decimal-requires c κs = omega (arith, word-ends _ _ _ (line-found word (c .before .before .before .read-word .ensures) (c .before .next .given .1)))
+read-decimal-requires c κs = search needs
 
 -- src/rt:213:1
 returns-2 : tie.Need-returns-2

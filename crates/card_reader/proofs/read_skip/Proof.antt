@@ -2,9 +2,9 @@ use mathlib.Core.Path.{_≡_, refl, sym, _∙_}
 use native.Mathlib.Omega.{arith}
 use lib.ListN.{length, take, drop}
 use lib.Seq.{length-take-le}
-use Rattle.definition.specs.Card.{skipAt, skipName, word}
-use Rattle.card_reader.proofs.Cards.{word-ends}
-use Rattle.card_reader.proofs.Places.{line-found, line-missed, front, behind}
+use Rattle.definition.specs.Card.{skipAt, word}
+use Rattle.card_reader.proofs.Places.{line-found, line-missed}
+use Rattle.card_laws.proofs.Planes.{front, behind}
 use borrow.Author.Needs.{needs}
 use Rattle.card_reader.proofs.read_skip.Statement.{statement}
 use Rattle.card_reader.proofs.read_skip.Tie as tie
@@ -40,14 +40,11 @@ slice-relend-prefix-read-groups c = search needs
 
 -- src/rt:305:26
 slice-aggregate-read-groups : tie.Need-slice-aggregate-read-groups
-slice-aggregate-read-groups c = let a = c .before .before .before .before .before .before .before .before in sym (length-take-le _ _ (omega (arith, a .pre)))
+slice-aggregate-read-groups c = let a = c .before .before .before .before .before .before .before .before in sym (length-take-le _ _ (a .pre))
 
 -- src/rt:305:5
 read-groups-requires : tie.Need-read-groups-requires
-read-groups-requires c κs =
-    let a = c .before .before .before .before .before .before .before .before in
-    let e = length-take-le (a .args .n) (a .args .skip .now) (omega (arith, a .pre)) in
-    omega (arith, a .pre, e, word-ends _ _ skipName (line-found word (c .before .before .before .before .read-word .ensures) (c .before .before .next .given .1)))
+read-groups-requires c κs = search needs
 
 -- src/rt:297:1
 same-length : tie.Need-same-length
@@ -58,7 +55,7 @@ returns-2 : tie.Need-returns-2
 unfolding skipAt
 returns-2 c =
     let a = c .before .before .before .before .before .before .before .before .before .before .before in
-    let k : length (take (a .args .n) (a .args .skip .now)) ≡ a .args .n = length-take-le (a .args .n) (a .args .skip .now) (omega (arith, a .pre)) in
+    let k : length (take (a .args .n) (a .args .skip .now)) ≡ a .args .n = length-take-le (a .args .n) (a .args .skip .now) (a .pre) in
     let g = c .before .before .read-groups in
     let e = line-found word (c .before .before .before .before .before .before .before .read-word .ensures) (c .before .before .before .before .before .next .given .1) in
     let s : length (g .last .1 .1 .0) ≡ a .args .n = g .kept .1 .1 .0 ∙ k in

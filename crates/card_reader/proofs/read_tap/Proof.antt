@@ -2,6 +2,8 @@ use borrow.Author.Tests.{eq-eqb, ne-eqb}
 use mathlib.Core.Path.{sym, ap, _∙_}
 use Rattle.definition.specs.Card.{tapAt, reading, negated, unsigned}
 use Rattle.card_reader.specs.Answers.{numberOf}
+use Rattle.card_reader.proofs.Places.{byte-inside}
+use native.Mathlib.Omega.{arith}
 use borrow.Author.Needs.{needs}
 use Rattle.card_reader.proofs.read_tap.Statement.{statement}
 use Rattle.card_reader.proofs.read_tap.Tie as tie
@@ -18,7 +20,7 @@ input-at-requires c κs = search needs
 
 -- src/rt:132:54
 add-read-decimal : tie.Need-add-read-decimal
-add-read-decimal c = search needs
+add-read-decimal c = let a = c .before .before .before .args in record { fits = omega (arith, byte-inside (a .s .now) (a .at) (c .before .input-at .ensures) (omega (arith, c .if1 .taken))) }
 
 -- src/rt:132:38
 read-decimal-requires : tie.Need-read-decimal-requires

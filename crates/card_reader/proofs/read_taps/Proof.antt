@@ -4,7 +4,7 @@ use native.Mathlib.Omega.{arith}
 use Prim.Native.Nat.{_-_}
 use lib.ListN.{length}
 use Rattle.definition.specs.Card.{endOf, tapAt}
-use Rattle.card_reader.proofs.Cards.{Filling, filling-begins, filling-more, filling-stops, filling-ends, filling-near, itself, tap-local}
+use Rattle.card_laws.proofs.Several.{Filling, filling-begins, filling-more, filling-stops, filling-ends}
 use Rattle.card_reader.proofs.Places.{tap-found, tap-missed, tap-fits}
 use mir.Facts.{toZ-ofZ}
 use Rattle.card_reader.proofs.read_taps.Statement.{statement}
@@ -30,10 +30,7 @@ end-of-requires c κs = c .loop-test .taken
 
 -- src/rt:239:32
 read-tap-requires : tie.Need-read-tap-requires Inv-loop μ-loop
-read-tap-requires c κs =
-    let a = c .before .before .before .before .args in
-    let l = c .before .before .loop in
-    omega (arith, l .inv .size, c .before .loop-test .taken, filling-near (λ k. tapAt (a .s .now) (endOf (length (a .filter .now)) k)) _ _ (l .filter) (l .next) (l .k) (l .inv) 5 (λ k. tap-local 0 (a .s .now) (a .s .now) (itself (a .s .now)) (endOf (length (a .filter .now)) k)))
+read-tap-requires c κs = search needs
 
 -- src/rt:239:24
 enum-known-v : tie.Need-enum-known-v Inv-loop μ-loop
@@ -61,7 +58,7 @@ slice-set-from-v c = c .before .before .before .before .before .loop-test .taken
 
 -- src/rt:244:9
 add-k : tie.Need-add-k Inv-loop μ-loop
-add-k c = let l = c .before .before .before .before .before .before .loop in record { fits = omega (arith, l .inv .size, c .before .before .before .before .before .loop-test .taken, c .before .before .before .before .before .before .before .before .pre) }
+add-k c = let l = c .before .before .before .before .before .before .loop in record { fits = omega (arith, l .inv .size, c .before .before .before .before .before .loop-test .taken) }
 
 -- src/rt:238:5
 loop-less : tie.Need-loop-less Inv-loop μ-loop

@@ -1,12 +1,10 @@
 use borrow.Author.Needs.{needs}
-use native.Mathlib.Nat.{add-zero}
-use Rattle.definition.specs.Card.{inputAt}
-use mathlib.Core.Path.{_≡_, sym, _∙_}
+use mathlib.Core.Path.{_≡_, refl, sym, _∙_}
 use native.Mathlib.Omega.{arith}
-use Prim.Native.Nat.{_+_, _-_, _≤_}
+use Prim.Native.Nat.{_-_, _≤_}
 use lib.ListN.{length, drop}
-use Rattle.definition.specs.Card.{wordAt}
-use Rattle.card_reader.proofs.Places.{word-step, word-stop, word-end}
+use Rattle.definition.specs.Card.{inputAt, wordAt}
+use Rattle.card_reader.proofs.Places.{byte-inside, word-step, word-stop, word-end}
 use Rattle.card_reader.proofs.read_word.Statement.{statement}
 use Rattle.card_reader.proofs.read_word.Tie as tie
 use Rattle.card_reader.proofs.read_word.Reads as reads
@@ -14,64 +12,63 @@ use Rattle.card_reader.proofs.read_word.Lts as lts
 use Rattle.card_reader.proofs.input_at.Reads as input-at-reads
 
 abbrev Inv-loop : tie.InvT-loop
-Inv-loop s at word i₀ i = (i ≤ length word) × (wordAt s word at ≡ wordAt s (drop i word) (at + i))
+Inv-loop s at word next₀ i₀ next i = (i ≤ length word) × (wordAt s word at ≡ wordAt s (drop i word) next)
 
 abbrev μ-loop : tie.MeasureT-loop
-μ-loop s at word i₀ i = length word - i
+μ-loop s at word next₀ i₀ next i = length word - i
 
--- src/rt:203:5
+-- src/lib.rt:197:5
 loop-holds : tie.Need-loop-holds Inv-loop μ-loop
-loop-holds c = let a = c .before .before .args in (omega arith, rw (add-zero (a .at)))
+loop-holds c = (omega arith, refl)
 
--- src/rt:204:24
-add-input-at : tie.Need-add-input-at Inv-loop μ-loop
-add-input-at c = omega arith
-
--- src/rt:204:12
+-- src/lib.rt:198:12
 input-at-requires : tie.Need-input-at-requires Inv-loop μ-loop
 input-at-requires c κs = tt
 
--- src/rt:204:35
+-- src/lib.rt:198:33
 shared-slice-read-if1 : tie.Need-shared-slice-read-if1 Inv-loop μ-loop
 shared-slice-read-if1 c = search needs
 
--- src/rt:204:35
+-- src/lib.rt:198:33
 cast-if1 : tie.Need-cast-if1 Inv-loop μ-loop
 cast-if1 c = record { fits = omega (arith, c .shared-slice-known3 .given (c .before .before .before .loop .i)) }
 
--- src/rt:205:13
+-- src/lib.rt:199:13
 returns : tie.Need-returns Inv-loop μ-loop
 returns c =
     let a = c .before .before .before .before .before .before .before .args in
     let l = c .before .before .before .before .loop in
-    let i : inputAt (a .s .now) (a .at + l .i) ≡ _ = sym (c .before .before .input-at .ensures) in
-    sym (l .inv .1 ∙ word-stop (a .s .now) (a .word .now) (a .at) (l .i) (c .before .before .before .loop-test .taken) (rw i (c .if1 .taken)))
+    let i : inputAt (a .s .now) (l .next) ≡ _ = sym (c .before .before .input-at .ensures) in
+    sym (l .inv .1 ∙ word-stop (a .s .now) (a .word .now) (l .next) (l .i) (c .before .before .before .loop-test .taken) (rw i (c .if1 .taken)))
 
--- src/rt:207:9
+-- src/lib.rt:201:9
+add-next : tie.Need-add-next Inv-loop μ-loop
+add-next c =
+    let a = c .before .before .before .before .before .before .before .args in
+    let l = c .before .before .before .before .loop in
+    record { fits = omega (arith, byte-inside (a .s .now) (l .next) (c .before .before .input-at .ensures) (omega (arith, c .if1 .left, c .before .shared-slice-known3 .given (l .i)))) }
+
+-- src/lib.rt:202:9
 add-i : tie.Need-add-i Inv-loop μ-loop
 add-i c = search needs
 
--- src/rt:203:5
+-- src/lib.rt:197:5
 loop-less : tie.Need-loop-less Inv-loop μ-loop
 loop-less c = search needs
 
--- src/rt:203:5
+-- src/lib.rt:197:5
 loop-again : tie.Need-loop-again Inv-loop μ-loop
 loop-again c =
     let a = c .before .before .before .before .before .before .before .args in
     let l = c .before .before .before .before .loop in
-    (omega arith, l .inv .1 ∙ word-step (a .s .now) (a .word .now) (a .at) (l .i) (c .before .before .before .loop-test .taken) (sym (c .before .before .input-at .ensures) ∙ c .if1 .left))
+    (omega arith, l .inv .1 ∙ word-step (a .s .now) (a .word .now) (l .next) (l .i) (c .before .before .before .loop-test .taken) (sym (c .before .before .input-at .ensures) ∙ c .if1 .left))
 
--- src/rt:209:16
-add-t11 : tie.Need-add-t11 Inv-loop μ-loop
-add-t11 c = omega arith
-
--- src/rt:198:1
+-- src/lib.rt:192:1
 returns-2 : tie.Need-returns-2 Inv-loop μ-loop
 returns-2 c =
     let a = c .before .before .before .before .args in
     let l = c .before .loop in
-    sym (l .inv .1 ∙ word-end (a .s .now) (a .word .now) (a .at) (l .i) (c .loop-test .left))
+    sym (l .inv .1 ∙ word-end (a .s .now) (a .word .now) (l .next) (l .i) (c .loop-test .left))
 
 pub read-word-spec : {M : Type 1} → statement M
 read-word-spec =
@@ -80,13 +77,12 @@ read-word-spec =
     Inv-loop
     μ-loop
     loop-holds
-    add-input-at
     input-at-requires
     shared-slice-read-if1
     cast-if1
     returns
+    add-next
     add-i
     loop-less
     loop-again
-    add-t11
     returns-2)

@@ -3,9 +3,9 @@ use native.Mathlib.Omega.{arith}
 use Prim.Native.Nat.{_+_, _-_, _*_, _≤_}
 use lib.ListN.{length}
 use Rattle.definition.specs.Card.{rowsText}
-use Rattle.card_reader.proofs.Cards.{room, part-long}
+use Rattle.card_laws.proofs.Planes.{in-plane, part-long}
 use Rattle.card_answer.specs.Put.{Put, put-none}
-use Rattle.card_answer.proofs.Texts.{rows-short, rows-more, in-plane}
+use Rattle.card_answer.proofs.Texts.{rows-short, rows-more}
 use Rattle.card_answer.proofs.text.put_rows.Statement.{statement}
 use Rattle.card_answer.proofs.text.put_rows.Tie as tie
 use Rattle.card_answer.proofs.text.put_rows.Reads as reads
@@ -25,11 +25,11 @@ loop-holds c = (omega arith, refl, put-none _ _)
 
 -- src/text.rt:111:20
 mul-from : tie.Need-mul-from Inv-loop μ-loop
-mul-from c = record { fits = omega (arith, room (c .before .loop .y) (c .before .before .before .before .args .w) (c .before .before .before .before .args .h) (c .loop-test .taken) (omega (arith, c .before .before .before .before .pre)) (omega (arith, c .before .before .before .before .pre))) }
+mul-from c = record { fits = omega (arith, in-plane (c .before .loop .y) (c .before .before .before .before .args .w) (c .before .before .before .before .args .h) _ (c .loop-test .taken) (c .before .before .before .before .pre .2)) }
 
 -- src/text.rt:112:18
 add-to : tie.Need-add-to Inv-loop μ-loop
-add-to c = record { fits = omega (arith, room (c .before .loop .y) (c .before .before .before .before .args .w) (c .before .before .before .before .args .h) (c .loop-test .taken) (omega (arith, c .before .before .before .before .pre)) (omega (arith, c .before .before .before .before .pre))) }
+add-to c = record { fits = omega (arith, in-plane (c .before .loop .y) (c .before .before .before .before .args .w) (c .before .before .before .before .args .h) _ (c .loop-test .taken) (c .before .before .before .before .pre .2)) }
 
 -- src/text.rt:113:35
 sub-put-row : tie.Need-sub-put-row Inv-loop μ-loop
@@ -52,7 +52,7 @@ put-row-requires c κs =
 
 -- src/text.rt:114:9
 add-y : tie.Need-add-y Inv-loop μ-loop
-add-y c = record { fits = omega (arith, c .before .before .before .before .before .loop-test .taken, c .before .before .before .before .before .before .before .before .before .pre) }
+add-y c = record { fits = omega (arith, c .before .before .before .before .before .loop-test .taken) }
 
 -- src/text.rt:110:5
 loop-less : tie.Need-loop-less Inv-loop μ-loop

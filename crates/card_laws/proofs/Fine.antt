@@ -1,17 +1,27 @@
--- A card that means a unit has one of the right sizes; any other has a status that is not 0.
+-- What is read at a place: a unit of the right sizes, or one of the statuses 1, 2 and 14. So a card's status is 0, 1, 2 or 14 and no other.
 use mathlib.Core.Path.{_≡_, refl, sym, _∙_}
-use mathlib.Core.Bool.{Bool, true, false, cond, not}
+use mathlib.Core.Bool.{Bool, true, false, cond, not, _&&_, _||_}
 use mathlib.Core.List.{List, [], _∷_, _++_}
-use Prim.Native.Nat.{ℕ, zero, suc, _+_, _*_, _/_, _<_}
+use Prim.Native.Nat.{ℕ, zero, suc, _+_, _*_, _/_, _%_, _≤_, _<_}
 use native.Mathlib.Nat.{zero-mul, suc-mul, mul-comm}
 use native.Mathlib.Omega.{arith}
-use borrow.Author.Tests.{not-false}
-use lib.Dec.{eqb}
+use borrow.Author.Tests.{not-false, leb-true}
+use lib.Dec.{eqb, leb}
 use lib.ListN.{length, length-append}
+use Rattle.laws.proofs.Ints.{never}
+use Rattle.laws.proofs.Passes.{both}
 use Rattle.definition.specs.Blocks.{side}
 use Rattle.definition.specs.Refusals.{sized}
 use Rattle.definition.specs.Limits.{widthLimit, heightLimit}
-use Rattle.definition.specs.Card.{Reading, value, wrong, reading, several, inputAt, wordAt, newline, pairAt, filterAt, skipAt, rowAt, rowsAt, sizeAt, opLine, wName, hName, edgesLine, filterName, rowName, joined, CardUnit, Meaning, whole, refused, after, meaningOfLists, meaning}
+use Rattle.definition.specs.Card.{Reading, value, wrong, reading, several, inputAt, wordAt, newline, pairAt, filterAt, skipAt, rowAt, rowsAt, sizeAt, opLine, wName, hName, edgesLine, filterName, rowName, joined, CardUnit, Meaning, unit, refused, after, listsAt, unitAt, ending, meaning, statusOf}
+use Rattle.card_laws.proofs.Planes.{joined-long}
+
+-- a multiple of 4 in 4 .. limit
+pub sized-low : (limit n : ℕ) → sized limit n ≡ true → side ≤ n
+sized-low limit n h = leb-true side n (both (eqb (n % side) 0) (leb side n) (both (eqb (n % side) 0 && leb side n) (leb n limit) h .0) .1)
+
+pub sized-le : (limit n : ℕ) → sized limit n ≡ true → n ≤ limit
+sized-le limit n h = leb-true n limit (both (eqb (n % side) 0 && leb side n) (leb n limit) h .1)
 
 -- of a value that was read
 abbrev Holds : {A : Type 0} → (A → Type 0) → Reading A → Type 0
@@ -62,10 +72,6 @@ row-long s w at =
 Filled : ℕ → ℕ → List (List ℕ) → Type 0
 Filled w n rows = length (joined rows) ≡ n * w
 
-joined-long : (rows : List (List ℕ)) (row : List ℕ) → length (joined (rows ++ (row ∷ []))) ≡ length (joined rows) + length row
-joined-long [] row = length-append row [] ∙ omega arith
-joined-long (r ∷ rows) row = length-append r (joined (rows ++ (row ∷ []))) ∙ omega (arith, joined-long rows row, length-append r (joined rows))
-
 rows-filled : (s : List ℕ) (w h at : ℕ) → Holds (Filled w h) (rowsAt s w h at)
 unfolding rowsAt Filled Long
 rows-filled s w h at =
@@ -78,37 +84,68 @@ pub record Good (u : CardUnit) : Type 0 where
   pub filter : length (u .filter) ≡ 16
   pub rows : length (joined (u .rows)) ≡ u .w * u .h
 
+-- the statuses of what is not a card
+abbrev pub refusing : ℕ → Bool
+refusing n = eqb n 1 || eqb n 2 || eqb n 14
+
 abbrev pub Fine : Meaning → Type 0
-Fine (whole u) = Good u
-Fine (refused status) = 0 < status
+Fine (unit u at) = Good u
+Fine (refused status) = refusing status ≡ true
 
 after-fine : {A : Type 0} (P : A → Type 0) (r : Reading A) (more : A → ℕ → Meaning) → Holds P r → ((a : A) (p : ℕ) → P a → Fine (more a p)) → Fine (after r more)
 after-fine P (value a p) more h k = k a p h
-after-fine P wrong more h k = omega arith
+after-fine P wrong more h k = refl
 
 cond-fine : (b : Bool) (m n : Meaning) → Fine m → (b ≡ false → Fine n) → Fine (cond b m n)
 cond-fine true m n hm hn = hm
 cond-fine false m n hm hn = hn refl
 
-end-fine : (b : Bool) (u : CardUnit) → Good u → Fine (cond b (whole u) (refused 14))
-end-fine true u g = g
-end-fine false u g = omega arith
-
-lists-fine : (s : List ℕ) (w h at : ℕ) → sized widthLimit w ≡ true → sized heightLimit h ≡ true → Fine (meaningOfLists s w h at)
-unfolding meaningOfLists Long Filled
+lists-fine : (s : List ℕ) (w h at : ℕ) → sized widthLimit w ≡ true → sized heightLimit h ≡ true → Fine (listsAt s w h at)
+unfolding listsAt Long Filled
 lists-fine s w h at ow oh =
     after-fine (Long 16) (filterAt s at) _ (filter-long s at) (λ filter p₁ lf.
     after-fine (λ _. Unit {0}) (skipAt s (h / side) p₁) _ (anything (skipAt s (h / side) p₁)) (λ skip p₂ _.
-    after-fine (Filled w h) (rowsAt s w h p₂) _ (rows-filled s w h p₂) (λ rows p₃ lr.
-    end-fine (eqb p₃ (length s)) _ (record { wide = ow; high = oh; filter = lf; rows = lr ∙ mul-comm h w }))))
+    after-fine (Filled w h) (rowsAt s w h p₂) _ (rows-filled s w h p₂) (λ rows p₃ lr. record { wide = ow; high = oh; filter = lf; rows = lr ∙ mul-comm h w })))
+
+pub unit-fine : (s : List ℕ) (at : ℕ) → Fine (unitAt s at)
+unfolding unitAt
+unit-fine s at =
+    after-fine (λ _. Unit {0}) (wordAt s opLine at) _ (anything (wordAt s opLine at)) (λ _ p₁ _.
+    after-fine (λ _. Unit {0}) (sizeAt s wName p₁) _ (anything (sizeAt s wName p₁)) (λ w p₂ _.
+    cond-fine (not (sized widthLimit w)) (refused 1) _ refl (λ bw.
+    after-fine (λ _. Unit {0}) (sizeAt s hName p₂) _ (anything (sizeAt s hName p₂)) (λ h p₃ _.
+    cond-fine (not (sized heightLimit h)) (refused 2) _ refl (λ bh.
+    after-fine (λ _. Unit {0}) (wordAt s edgesLine p₃) _ (anything (wordAt s edgesLine p₃)) (λ _ p₄ _.
+    lists-fine s w h p₄ (not-false _ bw) (not-false _ bh)))))))
 
 pub meaning-fine : (s : List ℕ) → Fine (meaning s)
 unfolding meaning
-meaning-fine s =
-    after-fine (λ _. Unit {0}) (wordAt s opLine 0) _ (anything (wordAt s opLine 0)) (λ _ p₁ _.
-    after-fine (λ _. Unit {0}) (sizeAt s wName p₁) _ (anything (sizeAt s wName p₁)) (λ w p₂ _.
-    cond-fine (not (sized widthLimit w)) (refused 1) _ (omega arith) (λ bw.
-    after-fine (λ _. Unit {0}) (sizeAt s hName p₂) _ (anything (sizeAt s hName p₂)) (λ h p₃ _.
-    cond-fine (not (sized heightLimit h)) (refused 2) _ (omega arith) (λ bh.
-    after-fine (λ _. Unit {0}) (wordAt s edgesLine p₃) _ (anything (wordAt s edgesLine p₃)) (λ _ p₄ _.
-    lists-fine s w h p₄ (not-false _ bw) (not-false _ bh)))))))
+meaning-fine s = go (unitAt s 0) (unit-fine s 0)
+  where
+    go : (m : Meaning) → Fine m → Fine (ending s m)
+    go (unit u at) f = choose (eqb at (length s))
+      where
+        choose : (b : Bool) → Fine (cond b (unit u at) (refused 14))
+        choose true = f
+        choose false = refl
+    go (refused status) f = f
+
+-- no refusal has status 0
+pub refusing-above : (status : ℕ) → refusing status ≡ true → 0 < status
+refusing-above zero e = absurd (never e)
+refusing-above (suc n) e = omega arith
+
+-- THE STATUSES
+abbrev pub known : ℕ → Bool
+known n = eqb n 0 || refusing n
+
+pub card-status : (s : List ℕ) → known (statusOf (meaning s)) ≡ true
+card-status s = go (meaning s) (meaning-fine s)
+  where
+    go : (m : Meaning) → Fine m → known (statusOf m) ≡ true
+    go (unit u at) f = refl
+    go (refused status) f = or-true (eqb status 0) (refusing status) f
+      where
+        or-true : (a b : Bool) → b ≡ true → (a || b) ≡ true
+        or-true true b e = refl
+        or-true false b e = e

@@ -1,0 +1,4 @@
+pub mod Several
+pub mod Planes
+pub mod Fine
+pub mod Reach

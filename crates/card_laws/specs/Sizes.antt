@@ -1,0 +1,19 @@
+-- How long the parts of a card are at most.
+use Prim.Native.Nat.{ℕ, _+_, _*_}
+use Rattle.definition.specs.Limits.{widthLimit, heightLimit, blockRowLimit}
+
+-- the samples of a unit
+abbrev pub planeSize : ℕ
+planeSize = widthLimit * heightLimit
+
+-- the bytes of a row's line
+abbrev pub rowLine : ℕ
+rowLine = 5 + 2 * widthLimit
+
+-- the bytes of a skip line
+abbrev pub skipLine : ℕ
+skipLine = 5 + 5 * blockRowLimit
+
+-- the bytes of a unit's lines: of op, w, h, edges and filter, of skip, and of its rows
+abbrev pub unitBytes : ℕ
+unitBytes = 5 + 6 + 6 + 8 + 87 + skipLine + heightLimit * rowLine
