@@ -8,12 +8,12 @@ use native.Mathlib.Nat.{zero-add}
 use native.Mathlib.Omega.{arith}
 use borrow.Author.Tests.{ltb-true, ltb-false}
 use lib.Dec.{eqb, ltb}
-use lib.ListN.{length, getD, take, drop, replicate, length-append, List·getD-append, List·getD-eq-default}
+use lib.ListN.{length, getD, take, drop, replicate, length-append, length-replicate, List·getD-append, List·getD-eq-default}
 use lib.Seq.{sets-eq, getD-append-add}
 use Rattle.definition.specs.Blocks.{side, piecesOf}
 use Rattle.definition.specs.Refusals.{sized}
 use Rattle.definition.specs.Limits.{widthLimit, heightLimit, blockRowLimit}
-use Rattle.definition.specs.Card.{Meaning, unit, refused, meaning, joined, spread, restoredPlane, filtered, headText, rowsText, statusName, filteredName, lineText, printed, cardAnswer}
+use Rattle.definition.specs.Card.{Meaning, unit, refused, meaning, joined, skipEntry, spread, restoredPlane, filtered, headText, rowsText, statusName, filteredName, lineText, printed, cardAnswer}
 use Rattle.laws.proofs.Lists.{tab-cong}
 use Rattle.card_laws.specs.Sizes.{planeSize}
 use Rattle.card_laws.proofs.Planes.{front, drop-zeros}
@@ -26,10 +26,6 @@ use Rattle.card_answer.proofs.Texts.{line-short, head-short, rows-short
 
 abbrev blank : ℕ → List ℕ
 blank n = replicate n 0
-
-blank-long : (n : ℕ) → length (blank n) ≡ n
-blank-long zero = refl
-blank-long (suc n) = ap suc (blank-long n)
 
 -- zeros behind a list are what it has there by default
 filled-at : (n i : ℕ) (l : List ℕ) → getD (filled 0 n l) i 0 ≡ getD l i 0
@@ -49,9 +45,7 @@ filled-at n i l = go (ltb i (length l)) refl
         sym (List·getD-eq-default l 0 h)
 
 spread-filled : (n : ℕ) (skip : List ℕ) → spread (filled 0 n skip) ≡ spread skip
-spread-filled n skip =
-    tab-cong heightLimit (λ i. cond (eqb (i % side) 0) (getD (filled 0 n skip) (i / side) 0) 0) (λ i. cond (eqb (i % side) 0) (getD skip (i / side) 0) 0)
-    (λ i l. ap (λ v. cond (eqb (i % side) 0) v 0) (filled-at n (i / side) skip))
+spread-filled n skip = tab-cong heightLimit (skipEntry (filled 0 n skip)) (skipEntry skip) (λ i l. ap (λ v. cond (eqb (i % side) 0) v 0) (filled-at n (i / side) skip))
 
 -- a card with another status than 0
 pub declined : (m : Meaning) → cardOf m .status ≢ 0 → headText (cardOf m .status) 0 ≡ printed m
@@ -93,7 +87,7 @@ head-fits status = omega (arith, length-append (lineText statusName status) (lin
 pub answered : (s text : List ℕ) (n : ℕ) (out : List ℕ) → Put text 0 n (replicate textSize 0) out → length text ≤ textSize → text ≡ printed (meaning s) → Answers s (record { n = n; text = out })
 unfolding cardAnswer
 answered s text n out p l e =
-    let z : length (blank textSize) ≡ textSize = blank-long textSize in
+    let z : length (blank textSize) ≡ textSize = length-replicate {A = ℕ} textSize 0 in
     record {
       size = p .place ∙ zero-add (length text) ∙ ap length e;
       text =

@@ -1,12 +1,11 @@
 -- A card's unit is never declined, and what the whole-unit operation leaves is the plane that the definition gives.
 use mathlib.Core.Path.{_≡_, refl, sym, ap, _∙_}
-use mathlib.Core.Bool.{true, false, _&&_}
+use mathlib.Core.Bool.{true, false}
 use mathlib.Core.List.{List, []}
 use Prim.Native.Nat.{ℕ, zero, suc, _+_, _*_, _/_, _%_, _≤_, _<_}
 use native.Mathlib.Nat.{add-zero, mod-lt, div-add-mod', div-lt-iff-lt-mul, mul-comm, suc-mul}
 use native.Mathlib.Omega.{arith}
-use borrow.Author.Tests.{le-ltb, leb-true}
-use lib.Dec.{leb, eqb}
+use borrow.Author.Tests.{le-ltb}
 use lib.IntN.{ℤ}
 use lib.ListN.{length, getD}
 use lib.Seq.{ext-getD}

@@ -1,4 +1,4 @@
--- Texts that grow by a byte or by two digits, and how long they are at most.
+-- Texts that are put one behind another, that grow by a byte or by two digits, and how long they are at most.
 use mathlib.Core.Path.{_≡_, refl, sym, ap, _∙_}
 use mathlib.Core.Bool.{Bool, true, false, cond}
 use mathlib.Core.List.{List, [], _∷_, _++_}
@@ -8,13 +8,29 @@ use native.Mathlib.Omega.{arith}
 use lib.Dec.{ltb}
 use lib.ListN.{length, getD, set, take, drop, length-append, length-take}
 use lib.Seq.{take-suc, sets}
-use native.Mathlib.Nat.{zero-add}
+use native.Mathlib.Nat.{zero-add, add-zero, add-suc, suc-add, add-assoc}
 use Rattle.definition.specs.Rows.{tab}
 use Rattle.laws.proofs.Lists.{sets-more}
 use Rattle.definition.specs.Card.{newline, rowName, glyph, higher, decimalText, lineText, hexText, rowText, rowsText, headText, statusName, filteredName}
 use Rattle.definition.specs.Limits.{widthLimit}
 use Rattle.card_laws.specs.Sizes.{rowLine}
-use Rattle.card_answer.specs.Put.{Put, put-then}
+use Rattle.card_answer.specs.Put.{Put}
+
+pub put-none : (at : ℕ) (l : List ℕ) → Put [] at at l l
+put-none at l = record { place = sym (add-zero at); bytes = refl }
+
+sets-append : (xs ys l : List ℕ) (a : ℕ) → sets (sets l a xs) (a + length xs) ys ≡ sets l a (xs ++ ys)
+sets-append [] ys l a = ap (λ k. sets l k ys) (add-zero a)
+sets-append (x ∷ xs) ys l a =
+    ap (λ k. sets (sets l a (x ∷ xs)) k ys) (add-suc a (length xs) ∙ sym (suc-add a (length xs))) ∙ sets-append xs ys _ (suc a)
+
+-- one text behind another
+pub put-then : {t u : List ℕ} {a b c : ℕ} {l m n : List ℕ} → Put t a b l m → Put u b c m n → Put (t ++ u) a c l n
+put-then {t} {u} {a} {b} {c} {l} {m} {n} p q =
+    record {
+      place = q .place ∙ ap (λ k. k + length u) (p .place) ∙ add-assoc a (length t) (length u) ∙ ap (λ k. a + k) (sym (length-append t u));
+      bytes = q .bytes ∙ ap (λ k. sets m k u) (p .place) ∙ ap (λ k. sets k (a + length t) u) (p .bytes) ∙ sets-append t u l a;
+    }
 
 pub higher-short : (d n : ℕ) → length (higher d n) ≤ 1
 higher-short d n = go (ltb n d)

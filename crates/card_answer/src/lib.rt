@@ -4,15 +4,14 @@ use definition::BLOCK_ROW_LIMIT;
 use definition::HEIGHT_LIMIT;
 use definition::SIDE;
 ghost use mathlib.Core.Path.{_≡_};
-ghost use mathlib.Core.Bool.{true, cond};
+ghost use mathlib.Core.Bool.{true};
 ghost use mathlib.Core.List.{_++_};
-ghost use Prim.Native.Nat.{_*_, _/_, _%_, _≤_, _<_};
-ghost use lib.Dec.{eqb};
-ghost use lib.ListN.{length, getD, take, drop};
+ghost use Prim.Native.Nat.{_*_, _/_, _≤_, _<_};
+ghost use lib.ListN.{length, take, drop};
 ghost use Rattle.definition.specs.Blocks.{side, piecesOf};
 ghost use Rattle.definition.specs.Refusals.{sized};
 ghost use Rattle.definition.specs.Limits.{widthLimit, heightLimit};
-ghost use Rattle.definition.specs.Card.{spread as Card·spread};
+ghost use Rattle.definition.specs.Card.{skipEntry, spread as Card·spread};
 ghost use Rattle.card_answer.specs.Answers.{Answers, textSize, planeOf, unitText};
 ghost use Rattle.card_answer.specs.Put.{Put};
 
@@ -30,7 +29,7 @@ pub struct Answer {
 // Number i of a unit's skip list: four for each block row, the first used.
 fn skip_at(skip: &[u16; BLOCK_ROW_LIMIT], i: usize) -> u16
     requires { ⌜ i < heightLimit ⌝ }
-    ensures { λ r. ⌜ r ≡ cond (eqb (i % side) 0) (getD (now (skip .entry)) (i / side) 0) 0 ⌝ }
+    ensures { λ r. ⌜ r ≡ skipEntry (now (skip .entry)) i ⌝ }
 {
     if i % SIDE == 0 {
         return skip[i / SIDE];

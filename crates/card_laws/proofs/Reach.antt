@@ -1,6 +1,6 @@
 -- A reading goes only so far behind the place where it starts, and only what stands that far decides it: `Local`, shown once for each way of putting readings
 -- together. So a unit goes at most `unitBytes` behind its place, and one byte more decides what a whole input means.
-use mathlib.Core.Path.{_≡_, refl, sym, ap, _∙_}
+use mathlib.Core.Path.{_≡_, refl, ap, _∙_}
 use mathlib.Core.Bool.{Bool, true, false, cond, not}
 use mathlib.Core.List.{List, [], _∷_, _++_}
 use Prim.Native.Nat.{ℕ, zero, suc, _+_, _-_, _*_, _/_, _≤_, _<_}

@@ -7,7 +7,7 @@ use definition::WIDTH_LIMIT;
 ghost use mathlib.Core.Path.{_≡_};
 ghost use Prim.Native.Nat.{_*_, _≤_, _<_};
 ghost use lib.ListN.{length, take, drop};
-ghost use Rattle.definition.specs.Card.{inputAt, digitOf, hexOf, decimalAt, decimalOf, tapAt, pairAt, groupAt, wordAt, sizeAt, filterAt, skipAt, rowAt, rowsAt, several, endOf, listsAt, unitAt, meaning};
+ghost use Rattle.definition.specs.Card.{inputAt, digitOf, hexOf, decimalAt, tapAt, pairAt, groupAt, wordAt, sizeAt, filterAt, skipAt, rowAt, rowsAt, several, endOf, listsAt, unitAt, meaning};
 ghost use Rattle.definition.specs.Card.{negated as Card·negated, unsigned as Card·unsigned, word as Card·word};
 ghost use Rattle.definition.specs.Limits.{widthLimit, heightLimit};
 ghost use Rattle.definition.specs.Refusals.{sized as Refusals·sized};

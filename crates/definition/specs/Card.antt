@@ -204,8 +204,11 @@ joined [] = []
 joined (r ∷ rs) = r ++ joined rs
 
 -- four numbers for each block row, the first used
+abbrev pub skipEntry : List ℕ → ℕ → ℕ
+skipEntry skip i = cond (eqb (i % side) 0) (getD skip (i / side) 0) 0
+
 abbrev pub spread : List ℕ → List ℕ
-spread skip = tab heightLimit (λ i. cond (eqb (i % side) 0) (getD skip (i / side) 0) 0)
+spread skip = tab heightLimit (skipEntry skip)
 
 abbrev pub given : CardUnit → Given
 given u =

@@ -7,8 +7,7 @@ use Rattle.definition.specs.Limits.{widthLimit, heightLimit}
 use Rattle.card_laws.proofs.Fine.{sized-le}
 use Rattle.card_laws.proofs.Planes.{front}
 use Rattle.card_answer.specs.Answers.{planeOf, unitText}
-use Rattle.card_answer.specs.Put.{put-then}
-use Rattle.card_answer.proofs.Texts.{head-short}
+use Rattle.card_answer.proofs.Texts.{put-then, head-short}
 use Rattle.card_answer.proofs.Restorations.{plane-long}
 use borrow.Author.Needs.{needs}
 use Rattle.card_answer.proofs.put_unit.Statement.{statement}

@@ -1,13 +1,11 @@
 use Rattle.card_answer.proofs.Texts.{stored-more}
 use mathlib.Core.Path.{_≡_, refl}
 use native.Mathlib.Omega.{arith}
-use Prim.Native.Nat.{_-_, _≤_, _/_, _%_}
-use mathlib.Core.Bool.{cond}
-use lib.Dec.{eqb}
-use lib.ListN.{getD, replicate}
+use Prim.Native.Nat.{_-_, _≤_}
+use lib.ListN.{replicate}
 use lib.Seq.{sets}
 use Rattle.definition.specs.Rows.{tab}
-use Rattle.definition.specs.Blocks.{side}
+use Rattle.definition.specs.Card.{skipEntry}
 use Rattle.definition.specs.Limits.{heightLimit}
 use Rattle.card_answer.proofs.spread.Statement.{statement}
 use Rattle.card_answer.proofs.spread.Tie as tie
@@ -16,7 +14,7 @@ use Rattle.card_answer.proofs.spread.Lts as lts
 use Rattle.card_answer.proofs.skip_at.Reads as skip-at-reads
 
 abbrev Inv-loop : tie.InvT-loop
-Inv-loop skip r₀ i₀ r i = (i ≤ heightLimit) × (r ≡ sets (replicate heightLimit 0) 0 (tab i (λ k. cond (eqb (k % side) 0) (getD skip (k / side) 0) 0)))
+Inv-loop skip r₀ i₀ r i = (i ≤ heightLimit) × (r ≡ sets (replicate heightLimit 0) 0 (tab i (skipEntry skip)))
 
 abbrev μ-loop : tie.MeasureT-loop
 μ-loop skip r₀ i₀ r i = heightLimit - i

@@ -1,4 +1,3 @@
-use native.Mathlib.Omega.{arith}
 use Rattle.definition.specs.Card.{sizeAt, word}
 use Rattle.card_reader.proofs.Places.{line-found, line-missed}
 use borrow.Author.Needs.{needs}

@@ -1,7 +1,6 @@
 use native.Mathlib.Omega.{arith}
 use Rattle.definition.specs.Card.{decimalText}
-use Rattle.card_answer.specs.Put.{put-then}
-use Rattle.card_answer.proofs.Texts.{higher-short}
+use Rattle.card_answer.proofs.Texts.{put-then, higher-short}
 use borrow.Author.Needs.{needs}
 use Rattle.card_answer.proofs.text.put_decimal.Statement.{statement}
 use Rattle.card_answer.proofs.text.put_decimal.Tie as tie

@@ -1,7 +1,6 @@
 use native.Mathlib.Omega.{arith}
 use Rattle.definition.specs.Card.{statusName}
-use Rattle.card_answer.specs.Put.{put-then}
-use Rattle.card_answer.proofs.Texts.{line-short}
+use Rattle.card_answer.proofs.Texts.{put-then, line-short}
 use borrow.Author.Needs.{needs}
 use Rattle.card_answer.proofs.text.put_head.Statement.{statement}
 use Rattle.card_answer.proofs.text.put_head.Tie as tie

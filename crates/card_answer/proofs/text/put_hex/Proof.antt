@@ -4,8 +4,8 @@ use Prim.Native.Nat.{_-_, _≤_}
 use lib.ListN.{length, take}
 use lib.Seq.{take-all, length-take-le}
 use Rattle.definition.specs.Card.{hexText}
-use Rattle.card_answer.specs.Put.{Put, put-none}
-use Rattle.card_answer.proofs.Texts.{two-more, hex-long}
+use Rattle.card_answer.specs.Put.{Put}
+use Rattle.card_answer.proofs.Texts.{put-none, two-more, hex-long}
 use Rattle.card_answer.proofs.text.put_hex.Statement.{statement}
 use Rattle.card_answer.proofs.text.put_hex.Tie as tie
 use Rattle.card_answer.proofs.text.put_hex.Reads as reads

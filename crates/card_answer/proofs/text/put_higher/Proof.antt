@@ -1,6 +1,6 @@
 use borrow.Author.Tests.{lt-ltb, le-ltb}
-use Rattle.card_answer.specs.Put.{put-none}
 use borrow.Author.Needs.{needs}
+use Rattle.card_answer.proofs.Texts.{put-none}
 use Rattle.card_answer.proofs.text.put_higher.Statement.{statement}
 use Rattle.card_answer.proofs.text.put_higher.Tie as tie
 use Rattle.card_answer.proofs.text.put_higher.Reads as reads

@@ -1,7 +1,6 @@
 use native.Mathlib.Omega.{arith}
 use Rattle.definition.specs.Card.{lineText}
-use Rattle.card_answer.specs.Put.{put-then}
-use Rattle.card_answer.proofs.Texts.{decimal-short}
+use Rattle.card_answer.proofs.Texts.{put-then, decimal-short}
 use borrow.Author.Needs.{needs}
 use Rattle.card_answer.proofs.text.put_line.Statement.{statement}
 use Rattle.card_answer.proofs.text.put_line.Tie as tie

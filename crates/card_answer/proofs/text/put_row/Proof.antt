@@ -1,7 +1,6 @@
 use native.Mathlib.Omega.{arith}
 use Rattle.definition.specs.Card.{rowText}
-use Rattle.card_answer.specs.Put.{put-then}
-use Rattle.card_answer.proofs.Texts.{hex-long}
+use Rattle.card_answer.proofs.Texts.{put-then, hex-long}
 use borrow.Author.Needs.{needs}
 use Rattle.card_answer.proofs.text.put_row.Statement.{statement}
 use Rattle.card_answer.proofs.text.put_row.Tie as tie

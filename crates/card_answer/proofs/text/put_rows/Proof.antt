@@ -4,8 +4,8 @@ use Prim.Native.Nat.{_+_, _-_, _*_, _≤_}
 use lib.ListN.{length}
 use Rattle.definition.specs.Card.{rowsText}
 use Rattle.card_laws.proofs.Planes.{in-plane, part-long}
-use Rattle.card_answer.specs.Put.{Put, put-none}
-use Rattle.card_answer.proofs.Texts.{rows-short, rows-more}
+use Rattle.card_answer.specs.Put.{Put}
+use Rattle.card_answer.proofs.Texts.{put-none, rows-short, rows-more}
 use Rattle.card_answer.proofs.text.put_rows.Statement.{statement}
 use Rattle.card_answer.proofs.text.put_rows.Tie as tie
 use Rattle.card_answer.proofs.text.put_rows.Reads as reads

@@ -3,8 +3,8 @@ use native.Mathlib.Omega.{arith}
 use Prim.Native.Nat.{_-_, _≤_}
 use lib.ListN.{length, take}
 use lib.Seq.{take-all, length-take-le}
-use Rattle.card_answer.specs.Put.{Put, put-none}
-use Rattle.card_answer.proofs.Texts.{one-more}
+use Rattle.card_answer.specs.Put.{Put}
+use Rattle.card_answer.proofs.Texts.{put-none, one-more}
 use Rattle.card_answer.proofs.text.put_word.Statement.{statement}
 use Rattle.card_answer.proofs.text.put_word.Tie as tie
 use Rattle.card_answer.proofs.text.put_word.Reads as reads
