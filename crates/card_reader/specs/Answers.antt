@@ -33,6 +33,11 @@ abbrev pub lineOf : {A : Type 0} → Line → A → Reading A
 lineOf (Next at) a = value a at
 lineOf LineWrong a = wrong
 
+-- the value that was read, and a where there is none
+abbrev pub valueOr : {A : Type 0} → A → Reading A → A
+valueOr a (value b at) = b
+valueOr a wrong = a
+
 -- a list of n, the rest of it zeros
 abbrev pub filled {ℓ} : {A : Type ℓ} → A → ℕ → List A → List A
 filled zero n l = l ++ replicate (n - length l) zero

@@ -11,7 +11,7 @@ ghost use Rattle.definition.specs.Card.{inputAt, digitOf, hexOf, decimalAt, tap
 ghost use Rattle.definition.specs.Card.{negated as Card·negated, unsigned as Card·unsigned, word as Card·word};
 ghost use Rattle.definition.specs.Limits.{widthLimit, heightLimit};
 ghost use Rattle.definition.specs.Refusals.{sized as Refusals·sized};
-ghost use Rattle.card_reader.specs.Answers.{numberOf, Below, tapOf, lineOf, joins, cardOf, refusedCard};
+ghost use Rattle.card_reader.specs.Answers.{numberOf, Below, tapOf, lineOf, valueOr, joins, cardOf, refusedCard};
 
 // A number and the place behind it.
 pub enum Number {
@@ -280,14 +280,20 @@ fn read_samples(s: &[u8], at: usize, row: &mut [u8]) -> Line
     Line::Next(next)
 }
 
-// The filter's line: 16 decimals.
+// The filter's line: 16 decimals. A line that is not of its form leaves the filter as it was.
 pub fn read_filter(s: &[u8], at: usize, filter: &mut [i8; 16]) -> Line
     ensures { λ r. ⌜ lineOf r (now (filter .exit)) ≡ filterAt (now (s .entry)) at ⌝ }
+    ensures { λ r. ⌜ now (filter .exit) ≡ valueOr (now (filter .entry)) (filterAt (now (s .entry)) at) ⌝ }
 {
-    let Line::Next(next) = read_word(s, at, b"filter=") else {
+    let Line::Next(p) = read_word(s, at, b"filter=") else {
         return Line::Wrong;
     };
-    read_taps(s, next, filter)
+    let mut taps = [0i8; 16];
+    let Line::Next(next) = read_taps(s, p, &mut taps) else {
+        return Line::Wrong;
+    };
+    *filter = taps;
+    Line::Next(next)
 }
 
 // The skip line: four hex digits for each of n block rows.

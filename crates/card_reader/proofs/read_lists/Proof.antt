@@ -35,7 +35,7 @@ refused-requires c κs = search needs
 -- src/lib.rt:354:9
 returns : tie.Need-returns
 unfolding cardOf
-returns c = c .refused .ensures ∙ ap cardOf (sym (no-filter _ _ _ _ (line-missed _ (c .before .before .before .read-filter .ensures) (c .before .enum-told .given .1))))
+returns c = c .refused .ensures ∙ ap cardOf (sym (no-filter _ _ _ _ (line-missed _ (c .before .before .before .read-filter .ensures .0) (c .before .enum-told .given .1))))
 
 -- src/lib.rt:357:53
 slice-aggregate-read-skip : tie.Need-slice-aggregate-read-skip
@@ -62,7 +62,7 @@ returns-2 : tie.Need-returns-2
 unfolding cardOf
 returns-2 c =
     let f = c .before .before .before .before .before .before .before in
-    c .refused2 .ensures ∙ ap cardOf (sym (no-skip _ _ _ _ _ _ (line-found _ (f .before .before .read-filter .ensures) (f .p1 .given .1)) (line-missed _ (c .before .before .before .before .read-skip .ensures .0) (c .before .enum-told2 .given .1))))
+    c .refused2 .ensures ∙ ap cardOf (sym (no-skip _ _ _ _ _ _ (line-found _ (f .before .before .read-filter .ensures .0) (f .p1 .given .1)) (line-missed _ (c .before .before .before .before .read-skip .ensures .0) (c .before .enum-told2 .given .1))))
 
 -- src/lib.rt:361:51
 slice-aggregate-read-rows : tie.Need-slice-aggregate-read-rows
@@ -90,7 +90,7 @@ unfolding cardOf
 returns-3 c =
     let k = c .before .before .before .before .before .before .before in
     let f = k .before .before .before .before .before .before in
-    c .refused3 .ensures ∙ ap cardOf (sym (no-rows _ _ _ _ _ _ (line-found _ (f .before .before .read-filter .ensures) (f .p1 .given .1)) _ _ (line-found _ (k .before .before .before .read-skip .ensures .0) (k .p2 .given .1)) (fallen _ _ _ _ (c .before .before .before .before .read-rows .ensures) (c .before .enum-told3 .given .1))))
+    c .refused3 .ensures ∙ ap cardOf (sym (no-rows _ _ _ _ _ _ (line-found _ (f .before .before .read-filter .ensures .0) (f .p1 .given .1)) _ _ (line-found _ (k .before .before .before .read-skip .ensures .0) (k .p2 .given .1)) (fallen _ _ _ _ (c .before .before .before .before .read-rows .ensures) (c .before .enum-told3 .given .1))))
 
 -- src/lib.rt:348:1
 returns-4 : tie.Need-returns-4
@@ -102,7 +102,7 @@ returns-4 c =
     let r = k .before .before .before .read-skip in
     let g = stood _ _ _ _ (c .before .before .before .before .read-rows .ensures) _ (c .before .next .given .1) in
     let z = filled-skip (a .args .h / side) (r .last .1 .1 .1 .0) (omega (arith, a .pre)) (r .kept .1 .1 .1 .0) (r .ensures .1) in
-    rw (all-read _ _ _ _ _ _ (line-found _ (f .before .before .read-filter .ensures) (f .p1 .given .1)) _ _ (line-found _ (k .before .before .before .read-skip .ensures .0) (k .p2 .given .1)) (g .rows) _ (g .is), ← z, ← filled-rows (g .rows) _ (g .plane))
+    rw (all-read _ _ _ _ _ _ (line-found _ (f .before .before .read-filter .ensures .0) (f .p1 .given .1)) _ _ (line-found _ (k .before .before .before .read-skip .ensures .0) (k .p2 .given .1)) (g .rows) _ (g .is), ← z, ← filled-rows (g .rows) _ (g .plane))
 
 pub read-lists-spec : {M : Type 1} → statement M
 read-lists-spec =
