@@ -18,7 +18,7 @@ use Rattle.card_laws.specs.Sizes.{rowLine, skipLine, unitBytes}
 use Rattle.card_laws.proofs.Fine.{sized-le}
 
 -- HOW FAR A READING GOES
-abbrev pub Reaches : {A : Type 0} → ℕ → Reading A → Type 0
+abbrev Reaches : {A : Type 0} → ℕ → Reading A → Type 0
 Reaches b (value a q) = q ≤ b
 Reaches b wrong = Unit {0}
 
@@ -27,12 +27,12 @@ further a b (value x q) h l = omega arith
 further a b wrong h l = tt
 
 -- two readings, f of one input and g of another, that go at most m places and agree where no more than the first n bytes are looked at
-pub record Local {A : Type 0} (n m : ℕ) (f g : ℕ → Reading A) : Type 0 where
-  pub reach : (p : ℕ) → Reaches (p + m) (f p)
-  pub same : (p : ℕ) → p + m ≤ n → f p ≡ g p
+record Local {A : Type 0} (n m : ℕ) (f g : ℕ → Reading A) : Type 0 where
+  reach : (p : ℕ) → Reaches (p + m) (f p)
+  same : (p : ℕ) → p + m ≤ n → f p ≡ g p
 
 module _ {A : Type 0} (n : ℕ) where
-  pub longer : {m k : ℕ} {f g : ℕ → Reading A} → m ≤ k → Local n m f g → Local n k f g
+  longer : {m k : ℕ} {f g : ℕ → Reading A} → m ≤ k → Local n m f g → Local n k f g
   longer {m} {k} {f} {g} h l = record { reach = λ p. further (p + m) (p + k) (f p) (omega arith) (l .reach p); same = λ p e. l .same p (omega arith) }
 
   stays : (a : A) → Local n 0 (value a) (value a)
@@ -48,14 +48,14 @@ module _ {A B : Type 0} (n m k : ℕ) (f g : ℕ → Reading A) (f′ g′ : A �
   then-same p wrong h e = refl
 
   -- one reading behind another
-  pub then-local : Local n (m + k) (λ p. reading (f p) f′) (λ p. reading (g p) g′)
+  then-local : Local n (m + k) (λ p. reading (f p) f′) (λ p. reading (g p) g′)
   then-local =
       record {
         reach = λ p. then-reach p (f p) (l .reach p);
         same = λ p e. then-same p (f p) (l .reach p) e ∙ ap (λ r. reading r g′) (l .same p (omega arith));
       }
 
-pub several-local : {A : Type 0} (n m : ℕ) (f g : ℕ → ℕ → Reading A) → ((k : ℕ) → Local n m (f k) (g k)) → (c : ℕ) → Local n (c * m) (several f c) (several g c)
+several-local : {A : Type 0} (n m : ℕ) (f g : ℕ → ℕ → Reading A) → ((k : ℕ) → Local n m (f k) (g k)) → (c : ℕ) → Local n (c * m) (several f c) (several g c)
 unfolding several
 several-local n m f g l zero = longer n {m = 0} {k = zero * m} (omega arith) (stays n [])
 several-local n m f g l (suc c) =
@@ -89,7 +89,7 @@ module _ (n : ℕ) (s t : List ℕ) (alike : (i : ℕ) → i < n → inputAt s i
   ended-local end a =
       cond-local 1 _ _ _ _ _ _ (λ p e. ap (λ b. eqb b end) (alike p (omega arith))) (value-local 1 1 (λ _. a) (λ _. a) (omega arith) (λ p e. refl)) (wrong-local 1)
 
-  pub word-local : (w : List ℕ) → Local n (length w) (wordAt s w) (wordAt t w)
+  word-local : (w : List ℕ) → Local n (length w) (wordAt s w) (wordAt t w)
   unfolding wordAt
   word-local [] = stays n word
   word-local (b ∷ w) =
@@ -110,7 +110,7 @@ module _ (n : ℕ) (s t : List ℕ) (alike : (i : ℕ) → i < n → inputAt s i
       (cond-reach (p + 4) (ltb 9 z) wrong _ tt
       (cond-reach (p + 4) (eqb d end) (value _ (p + 4)) wrong (omega arith) tt))))))
 
-  pub decimal-local : (end : ℕ) → Local n 4 (decimalAt s end) (decimalAt t end)
+  decimal-local : (end : ℕ) → Local n 4 (decimalAt s end) (decimalAt t end)
   unfolding decimalAt
   decimal-local end =
       record {
@@ -133,7 +133,7 @@ module _ (n : ℕ) (s t : List ℕ) (alike : (i : ℕ) → i < n → inputAt s i
   unsigned-local : (v : ℕ) → Local n 0 (unsigned v) (unsigned v)
   unsigned-local v = record { reach = λ p. cond-reach (p + 0) (ltb 127 v) wrong (value _ p) tt (omega arith); same = λ p e. refl }
 
-  pub tap-local : (end : ℕ) → Local n 5 (tapAt s end) (tapAt t end)
+  tap-local : (end : ℕ) → Local n 5 (tapAt s end) (tapAt t end)
   unfolding tapAt
   tap-local end =
       cond-local 5 _ _ _ _ _ _ (λ p e. ap (λ b. eqb b minus) (alike p (omega arith)))
@@ -141,7 +141,7 @@ module _ (n : ℕ) (s t : List ℕ) (alike : (i : ℕ) → i < n → inputAt s i
       (then-local n 5 0 (λ p. decimalAt s end (p + 1)) (λ p. decimalAt t end (p + 1)) negated negated (on-local 1 4 (decimalAt s end) (decimalAt t end) (decimal-local end)) negated-local))
       (longer n {m = 4 + 0} {k = 5} (omega arith) (then-local n 4 0 (decimalAt s end) (decimalAt t end) unsigned unsigned (decimal-local end) unsigned-local))
 
-  pub pair-local : Local n 2 (pairAt s) (pairAt t)
+  pair-local : Local n 2 (pairAt s) (pairAt t)
   unfolding pairAt
   pair-local =
       record {
@@ -150,36 +150,36 @@ module _ (n : ℕ) (s t : List ℕ) (alike : (i : ℕ) → i < n → inputAt s i
         same = λ p e. rw (alike p (omega arith), alike (p + 1) (omega arith));
       }
 
-  pub group-local : (end : ℕ) → Local n 5 (groupAt s end) (groupAt t end)
+  group-local : (end : ℕ) → Local n 5 (groupAt s end) (groupAt t end)
   unfolding groupAt
   group-local end =
       then-local n 2 3 (pairAt s) (pairAt t) _ _ pair-local (λ a.
       then-local n 2 1 (pairAt s) (pairAt t) _ _ pair-local (λ b. ended-local end (256 * a + b)))
 
   -- THE LINES
-  pub size-local : (name : List ℕ) → Local n (length name + 4) (sizeAt s name) (sizeAt t name)
+  size-local : (name : List ℕ) → Local n (length name + 4) (sizeAt s name) (sizeAt t name)
   unfolding sizeAt
   size-local name = then-local n (length name) 4 (wordAt s name) (wordAt t name) _ _ (word-local name) (λ _. decimal-local newline)
 
-  pub filter-local : Local n 87 (filterAt s) (filterAt t)
+  filter-local : Local n 87 (filterAt s) (filterAt t)
   unfolding filterAt
   filter-local =
       then-local n 7 80 (wordAt s filterName) (wordAt t filterName) _ _ (word-local filterName) (λ _.
       several-local n 5 _ _ (λ k. tap-local (endOf 16 k)) 16)
 
-  pub skip-local : (c : ℕ) → Local n (5 + c * 5) (skipAt s c) (skipAt t c)
+  skip-local : (c : ℕ) → Local n (5 + c * 5) (skipAt s c) (skipAt t c)
   unfolding skipAt
   skip-local c =
       then-local n 5 (c * 5) (wordAt s skipName) (wordAt t skipName) _ _ (word-local skipName) (λ _.
       several-local n 5 _ _ (λ k. group-local (endOf c k)) c)
 
-  pub row-local : (w : ℕ) → Local n (4 + (w * 2 + 1)) (rowAt s w) (rowAt t w)
+  row-local : (w : ℕ) → Local n (4 + (w * 2 + 1)) (rowAt s w) (rowAt t w)
   unfolding rowAt
   row-local w =
       then-local n 4 (w * 2 + 1) (wordAt s rowName) (wordAt t rowName) _ _ (word-local rowName) (λ _.
       then-local n (w * 2) 1 (several (λ k. pairAt s) w) (several (λ k. pairAt t) w) _ _ (several-local n 2 _ _ (λ k. pair-local) w) (λ row. ended-local newline row))
 
-  pub rows-local : (w h : ℕ) → w ≤ widthLimit → Local n (h * rowLine) (rowsAt s w h) (rowsAt t w h)
+  rows-local : (w h : ℕ) → w ≤ widthLimit → Local n (h * rowLine) (rowsAt s w h) (rowsAt t w h)
   unfolding rowsAt
   rows-local w h lw = several-local n rowLine (λ k. rowAt s w) (λ k. rowAt t w) (λ k. longer n {m = 4 + (w * 2 + 1)} {k = rowLine} (omega arith) (row-local w)) h
 

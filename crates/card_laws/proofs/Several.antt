@@ -35,7 +35,7 @@ module _ {A : Type 0} (f : ℕ → ℕ → Reading A) (at : ℕ) where
   several-more k p q l a e v = rw (add-one k) (several-step k p l e ∙ ap (λ r. reading r (λ b o. value (l ++ (b ∷ [])) o)) v)
 
   -- value k was stored at k
-  pub several-stored : (k p q : ℕ) (l : List A) (a : A) → k < length l → several f k at ≡ value (take k l) p → f k p ≡ value a q →
+  several-stored : (k p q : ℕ) (l : List A) (a : A) → k < length l → several f k at ≡ value (take k l) p → f k p ≡ value a q →
       several f (k + 1) at ≡ value (take (k + 1) (set l k a)) q
   several-stored k p q l a h e v =
       let t : take (k + 1) (set l k a) ≡ take k l ++ (a ∷ []) = rw (add-one k) (take-suc-set l k a h) in

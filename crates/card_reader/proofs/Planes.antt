@@ -4,12 +4,12 @@ use mathlib.Core.List.{List, [], _∷_, _++_, append-assoc}
 use Prim.Native.Nat.{ℕ, _+_, _*_, _-_, _≤_, _<_}
 use native.Mathlib.Nat.{zero-mul, add-mul, one-mul}
 use native.Mathlib.Omega.{arith}
-use lib.ListN.{length, drop, length-append, length-drop}
+use lib.ListN.{length, take, drop, length-append, length-drop}
 use lib.Seq.{drop-drop}
 use borrow.Rule.Slice.PartMut.{putMid}
 use Rattle.definition.specs.Card.{value, wrong, several, rowAt, rowsAt, joined}
 use Rattle.card_laws.proofs.Several.{several-none, several-wrong, several-more}
-use Rattle.card_laws.proofs.Planes.{joined-more, joined-long, front, behind}
+use Rattle.card_laws.proofs.Planes.{in-plane, rows-in-plane, part-long, joined-more, joined-long, front, behind}
 use Rattle.card_reader.specs.Answers.{joins}
 use Rattle.card_reader.specs.declared.Line.the-variants.{Next, Wrong as LineWrong}
 
@@ -25,10 +25,18 @@ module _ (s : List ℕ) (w at : ℕ) (p₀ : List ℕ) where
   joined-begins = record { rows = []; values = several-none (λ k. rowAt s w) at; long = sym (zero-mul w); plane = rw (zero-mul w) }
 
   module _ (p : List ℕ) (next y : ℕ) (j : Joined s w at p₀ p next y) where
-    pub joined-size : y * w ≤ length p₀ → length p ≡ length p₀
-    joined-size h =
-        ap length (j .plane) ∙ length-append (joined (j .rows)) (drop (y * w) p₀) ∙
-        omega (arith, j .long, length-drop (y * w) p₀)
+    -- in a plane that has room for h rows
+    module _ (h : ℕ) (room : w * h ≤ length p₀) where
+      pub joined-size : y ≤ h → length p ≡ length p₀
+      joined-size l =
+          ap length (j .plane) ∙ length-append (joined (j .rows)) (drop (y * w) p₀) ∙
+          omega (arith, j .long, length-drop (y * w) p₀, rows-in-plane y w h (length p₀) l room)
+
+      pub row-inside : y < h → y * w + w ≤ length p
+      row-inside l = omega (arith, in-plane y w h (length p₀) l room, joined-size (omega arith))
+
+      pub row-long : y < h → length (take (y * w + w - y * w) (drop (y * w) p)) ≡ w
+      row-long l = part-long y w p (row-inside l)
 
     -- row y was lent as the part of the plane behind those that were read
     module _ (row : List ℕ) (size : length row ≡ w) where
