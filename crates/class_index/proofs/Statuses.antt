@@ -1,15 +1,15 @@
 -- What it says that a status is 0, and what the answers are then and else.
-use mathlib.Core.Path.{_≡_, refl}
-use mathlib.Core.Bool.{true, cond, _||_, not}
+use mathlib.Core.Path.{_≡_, refl, sym, _∙_}
+use mathlib.Core.Bool.{true, cond, _||_, not, or-true, or-false}
 use mathlib.Core.List.{List}
-use Prim.Native.Nat.{ℕ, zero, suc, _≤_, _<_}
+use Prim.Native.Nat.{ℕ, zero, suc, _≤_, _<_, zero-le}
 use native.Mathlib.Omega.{arith}
 use lib.Dec.{ltb, leb, eqb}
-use borrow.Author.Tests.{ltb-false, leb-false, not-false}
+use borrow.Author.Tests.{ltb-false, leb-false, not-false, le-leb, ne-eqb}
 use Rattle.definition.specs.Limits.{blockRowLimit}
 use Rattle.definition.specs.ClassIndex.{lastColumn}
 use Rattle.definition.specs.Refusals.{rowsSize, indicesUpTo, classStatus}
-use Rattle.class_index.specs.Answers.{placeStatus}
+use Rattle.class_index.specs.Answers.{badPlace, placeStatus}
 use Rattle.definition.specs.Rows.{orZero}
 use Rattle.laws.proofs.Passes.{first-clear, not-both}
 
@@ -43,7 +43,11 @@ class-inside rows indices noskip bx by bh e =
       masks = ltb-false noskip bh (r .0);
     }
 
--- the place alone
+-- the place alone: that there is a block row follows from the block's
+pub place-tests : (bx by bh : ℕ) → (ltb lastColumn bx || eqb bh 0 || ltb blockRowLimit bh || leb bh by) ≡ badPlace bx by bh
+place-tests bx by zero = rw (le-leb 0 by zero-le) (or-true (ltb lastColumn bx || true || ltb blockRowLimit 0) ∙ sym (or-true (ltb lastColumn bx || ltb blockRowLimit 0)))
+place-tests bx by (suc bh) = rw (ne-eqb (suc bh) 0 (λ e. absurd (omega arith)), or-false (ltb lastColumn bx))
+
 pub record Placed (noskip bx by bh : ℕ) : Type 0 where
   pub column : bx ≤ lastColumn
   pub line : by < bh

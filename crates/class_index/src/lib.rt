@@ -9,7 +9,7 @@ ghost use Rattle.definition.specs.Limits.{blockRowLimit};
 ghost use Rattle.definition.specs.ClassIndex.{lastColumn, term, bin, skipSum, skipFactor, indexOf, classIndex};
 ghost use Rattle.definition.specs.Refusals.{classStatus};
 ghost use Rattle.features.specs.Features.{blockFlat};
-ghost use Rattle.class_index.specs.Answers.{placeStatus};
+ghost use Rattle.class_index.specs.Answers.{badPlace, placeStatus};
 ghost use Rattle.definition.specs.Rows.{orZero};
 use definition::BLOCK_ROW_LIMIT;
 use definition::INDEX_COUNT;
@@ -122,6 +122,19 @@ pub struct ClassIndex {
     pub index: u32,
 }
 
+// Whether a place is no block's of a unit with bh block rows.
+fn bad_place(bx: usize, by: usize, bh: usize) -> bool
+    ensures { λ r. ⌜ r ≡ badPlace bx by bh ⌝ }
+{
+    if LAST_COLUMN < bx {
+        return true;
+    }
+    if BLOCK_ROW_LIMIT < bh {
+        return true;
+    }
+    bh <= by
+}
+
 fn class_status(
     rows: usize,
     indices: &[usize; INDEX_COUNT],
@@ -132,16 +145,7 @@ fn class_status(
 ) -> u8
     ensures { λ r. ⌜ r ≡ classStatus rows (now (indices .entry)) noskip bx by bh ⌝ }
 {
-    if LAST_COLUMN < bx {
-        return 12;
-    }
-    if bh == 0 {
-        return 12;
-    }
-    if BLOCK_ROW_LIMIT < bh {
-        return 12;
-    }
-    if bh <= by {
+    if bad_place(bx, by, bh) {
         return 12;
     }
     if rows < ROWS_SIZE {
@@ -182,13 +186,7 @@ pub fn get_class_lut_idx_8bpc(
 fn place_status(noskip: usize, bx: usize, by: usize, bh: usize) -> u8
     ensures { λ r. ⌜ r ≡ placeStatus noskip bx by bh ⌝ }
 {
-    if LAST_COLUMN < bx {
-        return 12;
-    }
-    if BLOCK_ROW_LIMIT < bh {
-        return 12;
-    }
-    if bh <= by {
+    if bad_place(bx, by, bh) {
         return 12;
     }
     if noskip < bh {

@@ -1,41 +1,36 @@
 -- `class_index::place_status` meets its contract: the tests are those of `placeStatus`, in its order.
+use mathlib.Core.Path.{_≡_, sym, _∙_}
+use mathlib.Core.Bool.{true, false}
 use native.Mathlib.Omega.{arith}
-use borrow.Author.Tests.{lt-ltb, le-ltb, le-leb, lt-leb}
-use Rattle.definition.specs.Limits.{blockRowLimit}
-use Rattle.definition.specs.ClassIndex.{lastColumn}
-use Rattle.class_index.specs.Answers.{placeStatus}
+use borrow.Author.Needs.{needs}
+use borrow.Author.Tests.{lt-ltb, le-ltb}
+use Rattle.class_index.specs.Answers.{badPlace, placeStatus}
 use Rattle.class_index.proofs.place_status.Statement.{statement}
 use Rattle.class_index.proofs.place_status.Tie as tie
+
+bad-place-requires : tie.Need-bad-place-requires
+bad-place-requires c κs = search needs
 
 returns : tie.Need-returns
 unfolding placeStatus
 returns c =
-    let a = c .before .args in
-    rw (lt-ltb lastColumn (a .bx) (omega arith))
+    let a = c .before .before .args in
+    let b : badPlace (a .bx) (a .by) (a .bh) ≡ true = sym (c .before .bad-place .ensures) ∙ c .if1 .taken in
+    rw b
 
 returns-2 : tie.Need-returns-2
 unfolding placeStatus
 returns-2 c =
-    let a = c .before .before .args in
-    rw (le-ltb lastColumn (a .bx) (omega arith), lt-ltb blockRowLimit (a .bh) (omega arith))
+    let a = c .before .before .before .args in
+    let b : badPlace (a .bx) (a .by) (a .bh) ≡ false = sym (c .before .before .bad-place .ensures) ∙ c .before .if1 .left in
+    rw (b, lt-ltb (a .noskip) (a .bh) (omega arith))
 
 returns-3 : tie.Need-returns-3
 unfolding placeStatus
 returns-3 c =
     let a = c .before .before .before .args in
-    rw (le-ltb lastColumn (a .bx) (omega arith), le-ltb blockRowLimit (a .bh) (omega arith), le-leb (a .bh) (a .by) (omega arith))
-
-returns-4 : tie.Need-returns-4
-unfolding placeStatus
-returns-4 c =
-    let a = c .before .before .before .before .args in
-    rw (le-ltb lastColumn (a .bx) (omega arith), le-ltb blockRowLimit (a .bh) (omega arith), lt-leb (a .bh) (a .by) (omega arith), lt-ltb (a .noskip) (a .bh) (omega arith))
-
-returns-5 : tie.Need-returns-5
-unfolding placeStatus
-returns-5 c =
-    let a = c .before .before .before .before .args in
-    rw (le-ltb lastColumn (a .bx) (omega arith), le-ltb blockRowLimit (a .bh) (omega arith), lt-leb (a .bh) (a .by) (omega arith), le-ltb (a .noskip) (a .bh) (omega arith))
+    let b : badPlace (a .bx) (a .by) (a .bh) ≡ false = sym (c .before .before .bad-place .ensures) ∙ c .before .if1 .left in
+    rw (b, le-ltb (a .noskip) (a .bh) (omega arith))
 
 pub place-status-spec : {M : Type 1} → statement M
-place-status-spec = tie.close (tie.spec returns returns-2 returns-3 returns-4 returns-5)
+place-status-spec = tie.close (tie.spec bad-place-requires returns returns-2 returns-3)
