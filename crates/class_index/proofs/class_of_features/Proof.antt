@@ -23,7 +23,7 @@ index-of-requires : tie.Need-index-of-requires
 index-of-requires c κs =
     let a = c .before .before .before .args in
     let p = place-inside (length (a .noskip .now)) (a .bx) (a .by) (a .bh) (sym (c .before .place-status .ensures) ∙ c .if1 .left) in
-    (p .column, p .line, p .limit, p .masks)
+    (p .0 .column, p .0 .line, p .0 .limit, p .1)
 
 returns-2 : tie.Need-returns-2
 returns-2 c =

@@ -31,7 +31,7 @@ index-of-requires : tie.Need-index-of-requires
 index-of-requires c κs =
     let a = c .before .before .before .before .before .before .before .before .args in
     let p = class-inside (length (a .rows .now)) (a .t2) (length (a .noskip .now)) (a .bx) (a .by) (a .bh) (sym (c .before .before .before .before .class-status .ensures) ∙ c .before .before .before .if1 .left) in
-    (p .column, p .line, p .limit, p .masks)
+    (p .place .column, p .place .line, p .place .limit, p .masks)
 
 returns-2 : tie.Need-returns-2
 returns-2 c =
@@ -42,7 +42,7 @@ returns-2 c =
     let p = class-inside (length (a .rows .now)) (a .t2) (length (a .noskip .now)) (a .bx) (a .by) (a .bh) z in
     let q-is : toZ w32 (ofZ w32 (a .base-q)) ≡ a .base-q = toZ-ofZ (o .fits .base-q) in
     let f = c .before .before .pcw-features in
-    let e : f .result .status ≡ 0 = f .ensures .0 ∙ block-inside (length (a .rows .now)) (a .t2) (a .bx) (p .size) (p .low) (p .column) in
+    let e : f .result .status ≡ 0 = f .ensures .0 ∙ block-inside (length (a .rows .now)) (a .t2) (a .bx) (p .size) (p .low) (p .place .column) in
     let sums = f .ensures .1 ∙ ap (λ (n : ℕ). featureSums n (λ d. featureAt (a .rows .now) (a .t2) d (a .bx))) e in (
       sym z,
       index-served status _ (c .index-of .result) z
