@@ -177,11 +177,11 @@ def program_sites(file, text):
 
 # ---- the definition
 
-ABOVE = ('samples laws model vectors intops bounds edges blocks history card_reader features padding qval class_index filter refusals units'
+ABOVE = ('samples laws model vectors intops bounds operations blocks history card_laws card_reader features padding qval class_index filter refusals units'
          ' whole card_answer paused gihvendu').split()
 # the crates that lean on a file most: they are tried first, behind `samples`
-NEAREST = {'Card': 'card_reader card_answer', 'Refusals': 'model edges refusals', 'ClassIndex': 'qval class_index features model', 'Sample': 'model vectors filter',
-           'Padding': 'model edges padding', 'Blocks': 'blocks vectors', 'Units': 'model vectors', 'Rows': 'blocks features padding', 'Numbers': 'intops qval'}
+NEAREST = {'Card': 'card_reader card_answer', 'Refusals': 'model operations refusals', 'ClassIndex': 'qval class_index features model', 'Sample': 'model vectors filter',
+           'Padding': 'model operations padding', 'Blocks': 'blocks vectors', 'Units': 'model vectors', 'Rows': 'blocks features padding', 'Numbers': 'intops qval'}
 RULE = re.compile(r'[()]|"(?:\\.|[^"\\])*"|[^\s();]+|;')
 TURNED = {'ltb': ['leb'], 'leb': ['ltb'], '+': ['-'], '-': ['+'], '*': ['+'], '/': ['%'], '%': ['/'], '+ℤ': ['-ℤ'], '-ℤ': ['+ℤ'], '*ℤ': ['+ℤ'],
           '&&': ['||'], '||': ['&&'], 'min': ['max'], 'true': ['false'], 'false': ['true'], 'not': [''], 'pos': ['negsuc'], 'negsuc': ['pos']}

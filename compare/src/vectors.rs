@@ -7,18 +7,21 @@ use crate::units::{OPERATIONS, Operation, Unit};
 
 const HEAD: &str = "\
 -- What the reference makes of random units, beside what the definition says: every sample of each unit's rectangle.
--- One proof that antt computes. Assumes nothing.
+-- One proof that antt computes.
 use mathlib.Core.Bool.{Bool, true, false, _&&_}
 use mathlib.Core.List.{List, [], _∷_}
 use mathlib.Core.Path.{_≡_, refl}
 use Prim.Native.Nat.{ℕ, zero, suc, _+_, _*_, _/_, _%_}
 use lib.Dec.{eqb}
 use lib.IntN.{ℤ, pos, negsuc}
+use Rattle.definition.specs.declared.Operation.{Operation}
+use Rattle.definition.specs.declared.Operation.the-variants.{Luma, User, Pretrained, Chroma}
+use Rattle.definition.specs.declared.Given.{Given}
 use Rattle.definition.specs.Numbers.{sumZ, sumN}
 use Rattle.definition.specs.Rows.{tab}
 use Rattle.definition.specs.Sample.{rounded}
 use Rattle.definition.specs.ClassIndex.{term, bin, feature, skipSum, indexOf}
-use Rattle.definition.specs.Units.{Operation, luma, user, pretrained, chroma, Given, Lent, sampleAt, lumaAt, classOf, finalSample}
+use Rattle.definition.specs.Units.{Lent, sampleAt, lumaAt, classOf, finalSample}
 
 record Vector : Type 0 where
   op : Operation
@@ -83,10 +86,10 @@ fn integer(v: i64) -> String {
 
 fn write_unit(out: &mut String, k: usize, u: &Unit, expected: &[u8]) {
     let (op, classed) = match u.op {
-        Operation::Luma => ("luma", false),
-        Operation::User => ("user", true),
-        Operation::Pretrained => ("pretrained", true),
-        Operation::Chroma => ("chroma", false),
+        Operation::Luma => ("Luma", false),
+        Operation::User => ("User", true),
+        Operation::Pretrained => ("Pretrained", true),
+        Operation::Chroma => ("Chroma", false),
     };
     let _ = writeln!(out, "\nunit{k} : Vector\nunit{k} = record {{\n  op = {op};");
     let _ = writeln!(out, "  given = record {{");
@@ -95,15 +98,15 @@ fn write_unit(out: &mut String, k: usize, u: &Unit, expected: &[u8]) {
         ("h", u.h),
         ("edges", u.edges),
         ("stride", u.stride),
-        ("lumaStride", u.luma_stride),
+        ("«luma_stride»", u.luma_stride),
         ("off", u.off),
-        ("topOff", u.top_off),
-        ("bottomOff", u.bottom_off),
-        ("lumaOff", u.luma_off),
-        ("lumaTopOff", u.luma_top_off),
-        ("lumaBottomOff", u.luma_bottom_off),
-        ("ssHor", u.ss_hor),
-        ("ssVer", u.ss_ver),
+        ("«top_off»", u.top_off),
+        ("«bottom_off»", u.bottom_off),
+        ("«luma_off»", u.luma_off),
+        ("«luma_top_off»", u.luma_top_off),
+        ("«luma_bottom_off»", u.luma_bottom_off),
+        ("«ss_hor»", u.ss_hor),
+        ("«ss_ver»", u.ss_ver),
         ("kind", u.kind),
     ] {
         let _ = writeln!(out, "    {name} = {number};");

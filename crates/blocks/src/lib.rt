@@ -42,10 +42,9 @@ fn masked_end(mask: u16, bx: usize, bw: usize) -> usize
 }
 
 fn is_masked(mask: u16, bx: usize) -> bool
-    requires { ⌜ bx < blockColumnLimit ⌝ }
     ensures { λ r. ⌜ r ≡ masked mask bx ⌝ }
 {
-    (mask >> bx) % 2 == 1
+    bounds::is_set(mask as usize, bx)
 }
 
 pub struct Stretch {

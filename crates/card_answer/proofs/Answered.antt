@@ -10,6 +10,7 @@ use borrow.Author.Tests.{ltb-true, ltb-false}
 use lib.Dec.{eqb, ltb}
 use lib.ListN.{length, getD, take, drop, replicate, length-append, length-replicate, List·getD-append, List·getD-eq-default}
 use lib.Seq.{sets-eq, getD-append-add}
+use Rattle.laws.proofs.Inside.{is-sized}
 use Rattle.definition.specs.Blocks.{side, piecesOf}
 use Rattle.definition.specs.Refusals.{sized}
 use Rattle.definition.specs.Limits.{widthLimit, heightLimit, blockRowLimit}
@@ -17,7 +18,7 @@ use Rattle.definition.specs.Card.{Meaning, unit, refused, meaning, joined, skip
 use Rattle.laws.proofs.Lists.{tab-cong}
 use Rattle.card_laws.specs.Sizes.{planeSize}
 use Rattle.card_laws.proofs.Planes.{front, drop-zeros}
-use Rattle.card_laws.proofs.Fine.{Fine, meaning-fine, refusing-above, sized-le}
+use Rattle.card_laws.proofs.Fine.{Fine, meaning-fine, refusing-above}
 use Rattle.card_reader.specs.Answers.{cardOf, filled}
 use Rattle.card_reader.specs.declared.Card.{Card}
 use Rattle.card_answer.specs.Answers.{Answers, textSize, planeOf, unitText}
@@ -54,14 +55,14 @@ declined (unit u at) h = absurd (h refl)
 declined (refused status) h = refl
 
 -- a card with status 0, and its unit
-pub record Taken (m : Meaning) : Type 0 where
+pub record GoodCard (m : Meaning) : Type 0 where
   pub wide : sized widthLimit (cardOf m .w) ≡ true
   pub high : sized heightLimit (cardOf m .h) ≡ true
   pub filter : length (cardOf m .filter) ≡ 16
   pub room : cardOf m .w * cardOf m .h ≤ length (cardOf m .rows)
   pub text : unitText (cardOf m .w) (cardOf m .h) (cardOf m .filter) (spread (cardOf m .skip)) (take (cardOf m .w * cardOf m .h) (cardOf m .rows)) ≡ printed m
 
-pub taken : (m : Meaning) → Fine m → cardOf m .status ≡ 0 → Taken m
+pub taken : (m : Meaning) → Fine m → cardOf m .status ≡ 0 → GoodCard m
 unfolding cardOf printed unitText planeOf restoredPlane filtered
 taken (refused status) f e = absurd (omega (arith, refusing-above status f, e))
 taken (unit u at) g e =
@@ -99,8 +100,8 @@ pub unit-answered : (s : List ℕ) (r : Card) (skip : List ℕ) (n : ℕ) (out :
     Put (unitText (r .w) (r .h) (r .filter) skip (take (r .w * r .h) (r .rows))) 0 n (replicate textSize 0) out → Answers s (record { n = n; text = out })
 unit-answered s r skip n out e z k p =
     let m : Meaning = meaning s in
-    let t : Taken m = taken m (meaning-fine s) (rw e at z) in
+    let t : GoodCard m = taken m (meaning-fine s) (rw e at z) in
     let q : Put (unitText (cardOf m .w) (cardOf m .h) (cardOf m .filter) (spread (cardOf m .skip)) (take (cardOf m .w * cardOf m .h) (cardOf m .rows))) 0 n (replicate textSize 0) out =
     rw e at (rw k at p) in
     answered s _ n out q
-    (unit-short (cardOf m .w) (cardOf m .h) (cardOf m .filter) (spread (cardOf m .skip)) _ (sized-le widthLimit (cardOf m .w) (t .wide)) (sized-le heightLimit (cardOf m .h) (t .high))) (t .text)
+    (unit-short (cardOf m .w) (cardOf m .h) (cardOf m .filter) (spread (cardOf m .skip)) _ (is-sized widthLimit (cardOf m .w) (t .wide) .high) (is-sized heightLimit (cardOf m .h) (t .high) .high)) (t .text)

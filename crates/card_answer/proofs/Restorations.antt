@@ -9,17 +9,17 @@ use borrow.Author.Tests.{le-ltb}
 use lib.IntN.{ℤ}
 use lib.ListN.{length, getD}
 use lib.Seq.{ext-getD}
+use Rattle.laws.proofs.Inside.{is-sized}
+use Rattle.definition.specs.declared.Operation.the-variants.{Luma}
 use Rattle.definition.specs.Rows.{tab}
 use Rattle.definition.specs.Blocks.{side, piecesOf}
-use Rattle.definition.specs.Units.{luma, finalSample}
+use Rattle.definition.specs.Units.{finalSample}
 use Rattle.definition.specs.Refusals.{sized, outside, unitStatus, unitChecks, sizesOf}
 use Rattle.definition.specs.Limits.{widthLimit, heightLimit, strideLimit}
 use Rattle.laws.proofs.Lists.{length-tab, getD-tab}
 use Rattle.laws.proofs.Checks.{cleared}
-use Rattle.card_laws.proofs.Fine.{sized-low, sized-le}
-use Rattle.refusals.specs.Given.{givenOf}
 use Rattle.units.specs.Lent.{lumaLent}
-use Rattle.units.specs.Openings.{numbersY, openStatus}
+use Rattle.units.specs.Openings.{givenY, openStatus}
 use Rattle.whole.specs.Whole.{Whole}
 use Rattle.whole.specs.declared.Restored.{Restored}
 use Rattle.card_answer.specs.Answers.{planeOf}
@@ -30,13 +30,13 @@ inside w zero len l s = refl
 inside w (suc h) len l s = le-ltb len (0 + h * w + w + 0) (omega (arith, mul-comm w (suc h), suc-mul h w))
 
 module _ (w h : ℕ) (filter : List ℤ) (skip plane : List ℕ) (ow : sized widthLimit w ≡ true) (oh : sized heightLimit h ≡ true) where
-  pub accepted : length filter ≡ 16 → length skip ≡ heightLimit → w * h ≤ length plane → openStatus luma (numbersY w h 0 w 0 0 0) (lumaLent [] [] [] filter skip) plane ≡ 0
+  pub accepted : length filter ≡ 16 → length skip ≡ heightLimit → w * h ≤ length plane → openStatus Luma (givenY w h 0 w 0 0 0) (lumaLent [] [] [] filter skip) plane ≡ 0
   unfolding unitStatus
   accepted f k p =
-      let lw : w ≤ widthLimit = sized-le widthLimit w ow in
-      let lh : h ≤ heightLimit = sized-le heightLimit h oh in
-      let gh : side ≤ h = sized-low heightLimit h oh in
-      cleared (unitChecks luma (givenOf (numbersY w h 0 w 0 0 0)) (sizesOf luma (lumaLent [] [] [] filter skip) plane)) (
+      let lw : w ≤ widthLimit = is-sized widthLimit w ow .high in
+      let lh : h ≤ heightLimit = is-sized heightLimit h oh .high in
+      let gh : side ≤ h = is-sized heightLimit h oh .low in
+      cleared (unitChecks Luma (givenY w h 0 w 0 0 0) (sizesOf Luma (lumaLent [] [] [] filter skip) plane)) (
         rw ow,
         (
           rw oh,
@@ -73,8 +73,8 @@ plane-is w h q f pw size here =
     ap (λ k. getD q k 0) (sym e) ∙ here (i / w) (i % w) row (mod-lt i pw) ∙ sym (getD-tab (w * h) (λ i. f (i / w) (i % w)) i il))
 
 module _ (w h : ℕ) (filter : List ℤ) (skip p q : List ℕ) (r : Restored) (ow : sized widthLimit w ≡ true) (oh : sized heightLimit h ≡ true)
-    (f : length filter ≡ 16) (k : length skip ≡ heightLimit) (size : length p ≡ w * h) (o : Whole luma r (numbersY w h 0 w 0 0 0) (lumaLent [] [] [] filter skip) p q) where
-  zero-status : openStatus luma (numbersY w h 0 w 0 0 0) (lumaLent [] [] [] filter skip) p ≡ 0
+    (f : length filter ≡ 16) (k : length skip ≡ heightLimit) (size : length p ≡ w * h) (o : Whole Luma r (givenY w h 0 w 0 0 0) (lumaLent [] [] [] filter skip) p q) where
+  zero-status : openStatus Luma (givenY w h 0 w 0 0 0) (lumaLent [] [] [] filter skip) p ≡ 0
   zero-status = accepted w h filter skip p ow oh f k (omega (arith, size))
 
   pub restored-pieces : r .pieces ≡ piecesOf skip (w / side) 0 h
@@ -84,8 +84,8 @@ module _ (w h : ℕ) (filter : List ℤ) (skip p q : List ℕ) (r : Restored) (o
   unfolding planeOf
   restored-plane =
       let l = o .plane zero-status in
-      let gw : side ≤ w = sized-low widthLimit w ow in
-      plane-is w h q (λ y x. finalSample (givenOf (numbersY w h 0 w 0 0 0)) (lumaLent [] [] [] filter skip) p luma y x) (omega arith) (l .size ∙ size) (l .here)
+      let gw : side ≤ w = is-sized widthLimit w ow .low in
+      plane-is w h q (λ y x. finalSample (givenY w h 0 w 0 0 0) (lumaLent [] [] [] filter skip) p Luma y x) (omega arith) (l .size ∙ size) (l .here)
 
 pub plane-long : (w h : ℕ) (filter : List ℤ) (skip plane : List ℕ) → length (planeOf w h filter skip plane) ≡ w * h
 unfolding planeOf

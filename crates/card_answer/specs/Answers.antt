@@ -4,15 +4,15 @@ use mathlib.Core.List.{List, [], _++_}
 use Prim.Native.Nat.{ℕ, _+_, _-_, _*_, _/_, _%_}
 use lib.IntN.{ℤ}
 use lib.ListN.{length, replicate}
+use Rattle.definition.specs.declared.Operation.the-variants.{Luma}
 use Rattle.definition.specs.Rows.{tab}
 use Rattle.definition.specs.Blocks.{side, piecesOf}
-use Rattle.definition.specs.Units.{luma, finalSample}
+use Rattle.definition.specs.Units.{finalSample}
 use Rattle.definition.specs.Card.{headText, rowsText, cardAnswer}
 use Rattle.definition.specs.Limits.{heightLimit}
 use Rattle.card_laws.specs.Sizes.{rowLine}
-use Rattle.refusals.specs.Given.{givenOf}
 use Rattle.units.specs.Lent.{lumaLent}
-use Rattle.units.specs.Openings.{numbersY}
+use Rattle.units.specs.Openings.{givenY}
 use Rattle.card_answer.specs.declared.Answer.{Answer}
 
 -- the bytes of the longest answer
@@ -27,7 +27,7 @@ pub record Answers (s : List ℕ) (r : Answer) : Type 0 where
 -- a plane of w by h samples, restored with a filter and a flat skip list
 unfoldable pub planeOf : ℕ → ℕ → List ℤ → List ℕ → List ℕ → List ℕ
 planeOf w h filter skip plane =
-    tab (w * h) (λ i. finalSample (givenOf (numbersY w h 0 w 0 0 0)) (lumaLent [] [] [] filter skip) plane luma (i / w) (i % w))
+    tab (w * h) (λ i. finalSample (givenY w h 0 w 0 0 0) (lumaLent [] [] [] filter skip) plane Luma (i / w) (i % w))
 
 -- what is printed for it
 unfoldable pub unitText : ℕ → ℕ → List ℤ → List ℕ → List ℕ → List ℕ

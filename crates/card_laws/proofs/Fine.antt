@@ -16,13 +16,6 @@ use Rattle.definition.specs.Limits.{widthLimit, heightLimit}
 use Rattle.definition.specs.Card.{Reading, value, wrong, reading, several, inputAt, wordAt, newline, pairAt, filterAt, skipAt, rowAt, rowsAt, sizeAt, opLine, wName, hName, edgesLine, filterName, rowName, joined, CardUnit, Meaning, unit, refused, after, listsAt, unitAt, ending, meaning, statusOf}
 use Rattle.card_laws.proofs.Planes.{joined-long}
 
--- a multiple of 4 in 4 .. limit
-pub sized-low : (limit n : ℕ) → sized limit n ≡ true → side ≤ n
-sized-low limit n h = leb-true side n (both (eqb (n % side) 0) (leb side n) (both (eqb (n % side) 0 && leb side n) (leb n limit) h .0) .1)
-
-pub sized-le : (limit n : ℕ) → sized limit n ≡ true → n ≤ limit
-sized-le limit n h = leb-true n limit (both (eqb (n % side) 0 && leb side n) (leb n limit) h .1)
-
 -- of a value that was read
 abbrev Holds : {A : Type 0} → (A → Type 0) → Reading A → Type 0
 Holds P (value a p) = P a

@@ -10,12 +10,12 @@ use borrow.Author.Tests.{ne-eqb, leb-true, not-false, leb-false}
 use lib.Dec.{ltb, leb, eqb}
 use lib.ListN.{length, take, length-take}
 use lib.Seq.{take-all, getD-take}
+use Rattle.laws.proofs.Inside.{is-sized}
 use Rattle.definition.specs.Blocks.{side}
 use Rattle.definition.specs.Refusals.{sized}
 use Rattle.definition.specs.Limits.{widthLimit, heightLimit}
 use Rattle.definition.specs.Card.{inputAt, Reading, value, wrong, reading, several, word, wordAt, ended, endOf, newline, decimalOf, decimalAt, negated, unsigned, minus, tapAt, hexOf, pairAt, groupAt, opLine, wName, hName, edgesLine, filterName, skipName, rowName, sizeAt, filterAt, skipAt, rowAt, rowsAt, Meaning, unit, refused, after, listsAt, unitAt, ending, meaning}
 use Rattle.card_laws.specs.Sizes.{rowLine, skipLine, unitBytes}
-use Rattle.card_laws.proofs.Fine.{sized-le}
 
 -- HOW FAR A READING GOES
 abbrev Reaches : {A : Type 0} → ℕ → Reading A → Type 0
@@ -228,7 +228,7 @@ module _ (n : ℕ) (s t : List ℕ) (alike : (i : ℕ) → i < n → inputAt s i
       after-agree c n 6 p₂ (sizeAt s hName) (sizeAt t hName) _ _ (size-local n s t alike hName) (omega arith) (λ h p₃ b₃.
       cond-agree c (not (sized heightLimit h)) 2 _ _ (λ okh.
       after-agree c n 8 p₃ (wordAt s edgesLine) (wordAt t edgesLine) _ _ (word-local n s t alike edgesLine) (omega arith) (λ _ p₄ b₄.
-      lists-agree w h p₄ (sized-le widthLimit w (not-false _ okw)) (sized-le heightLimit h (not-false _ okh)) (omega arith)))))))
+      lists-agree w h p₄ (is-sized widthLimit w (not-false _ okw) .high) (is-sized heightLimit h (not-false _ okh) .high) (omega arith)))))))
 
 -- the bytes up to so many behind a place decide what stands there
 pub unit-alike : (n : ℕ) (s t : List ℕ) → ((i : ℕ) → i < n → inputAt s i ≡ inputAt t i) → (at : ℕ) → at + unitBytes ≤ n → unitAt s at ≡ unitAt t at

@@ -1,4 +1,4 @@
-// Reads document 01's card from a slice, line by line from any place on. Each kind of line has a function, which answers a value and the place
+// Reads document 01's card from a slice, line by line from any place on. Each line has a function, which answers a value and the place
 // behind it, or that the line is not of its form. A place moves on only past bytes that stand there, so it never passes the input's end.
 use definition::BLOCK_ROW_LIMIT;
 use definition::HEIGHT_LIMIT;
@@ -10,7 +10,6 @@ ghost use lib.ListN.{length, take, drop};
 ghost use Rattle.definition.specs.Card.{inputAt, digitOf, hexOf, decimalAt, tapAt, pairAt, groupAt, wordAt, sizeAt, filterAt, skipAt, rowAt, rowsAt, several, endOf, listsAt, unitAt, meaning};
 ghost use Rattle.definition.specs.Card.{negated as Card·negated, unsigned as Card·unsigned, word as Card·word};
 ghost use Rattle.definition.specs.Limits.{widthLimit, heightLimit};
-ghost use Rattle.definition.specs.Refusals.{sized as Refusals·sized};
 ghost use Rattle.card_reader.specs.Answers.{numberOf, Below, tapOf, lineOf, valueOr, joins, cardOf, refusedCard};
 
 // A number and the place behind it.
@@ -385,19 +384,6 @@ fn read_lists(s: &[u8], at: usize, w: usize, h: usize) -> Card
     }
 }
 
-// Whether a width or height is a multiple of 4 from 4 up to its limit.
-fn sized(n: usize, limit: usize) -> bool
-    ensures { λ r. ⌜ r ≡ Refusals·sized limit n ⌝ }
-{
-    if n % SIDE != 0 {
-        return false;
-    }
-    if n < SIDE {
-        return false;
-    }
-    n <= limit
-}
-
 // Reads the unit at a place, and tells the place behind it.
 pub fn read_unit(s: &[u8], at: usize) -> Card
     ensures { λ r. ⌜ r ≡ cardOf (unitAt (now (s .entry)) at) ⌝ }
@@ -408,13 +394,13 @@ pub fn read_unit(s: &[u8], at: usize) -> Card
     let Number::Value(w, p2) = read_size(s, p1, b"w=") else {
         return refused(14);
     };
-    if !sized(w, WIDTH_LIMIT) {
+    if !bounds::is_sized(w, WIDTH_LIMIT) {
         return refused(1);
     }
     let Number::Value(h, p3) = read_size(s, p2, b"h=") else {
         return refused(14);
     };
-    if !sized(h, HEIGHT_LIMIT) {
+    if !bounds::is_sized(h, HEIGHT_LIMIT) {
         return refused(2);
     }
     let Line::Next(p4) = read_word(s, p3, b"edges=0\n") else {

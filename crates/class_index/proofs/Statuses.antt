@@ -38,13 +38,13 @@ place-inside noskip bx by bh e =
     (block-place bx by bh (p .0), ltb-false noskip bh (r .0))
 
 -- .. of rows that lie inside
-pub record Inside (rows : ℕ) (indices : List ℕ) (noskip bx by bh : ℕ) : Type 0 where
+pub record Served (rows : ℕ) (indices : List ℕ) (noskip bx by bh : ℕ) : Type 0 where
   pub place : Placed bx by bh
   pub size : rowsSize ≤ rows
   pub low : indicesUpTo 9 indices ≡ true
   pub masks : bh ≤ noskip
 
-pub class-inside : (rows : ℕ) (indices : List ℕ) (noskip bx by bh : ℕ) → classStatus rows indices noskip bx by bh ≡ 0 → Inside rows indices noskip bx by bh
+pub class-inside : (rows : ℕ) (indices : List ℕ) (noskip bx by bh : ℕ) → classStatus rows indices noskip bx by bh ≡ 0 → Served rows indices noskip bx by bh
 unfolding classStatus
 class-inside rows indices noskip bx by bh e =
     let p = first-clear (ltb lastColumn bx || eqb bh 0 || ltb blockRowLimit bh || leb bh by) 12 (cond (ltb rows rowsSize || not (indicesUpTo 9 indices)) 5 (cond (ltb noskip bh) 9 0)) (omega arith) e in

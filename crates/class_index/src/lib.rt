@@ -30,10 +30,9 @@ fn neighbour(at: usize, k: usize, last: usize) -> usize
 
 // What one neighbour adds: its share where its noskip bit is 0.
 fn skip_share(mask: u16, column: usize, share: u32) -> u32
-    requires { ⌜ column ≤ lastColumn ⌝ }
     ensures { λ r. ⌜ (r ≡ cond (bitSet mask column) 0 share) × (r ≤ share) ⌝ }
 {
-    if (mask >> column) % 2 == 1 {
+    if bounds::is_set(mask as usize, column) {
         return 0;
     }
     share

@@ -7,9 +7,11 @@ use lib.IntN.{ℤ, pos, negsuc}
 use lib.ListN.{length, getD, take, drop}
 use Prim.Native.Char.{code}
 use Prim.Native.String.{String, [] as empty, _∷_ as _then_}
+use Rattle.definition.specs.declared.Operation.the-variants.{Luma}
+use Rattle.definition.specs.declared.Given.{Given}
 use Rattle.definition.specs.Rows.{tab}
 use Rattle.definition.specs.Blocks.{side, piecesOf}
-use Rattle.definition.specs.Units.{luma, Given, Lent, finalSample}
+use Rattle.definition.specs.Units.{Lent, finalSample}
 use Rattle.definition.specs.Refusals.{sized}
 use Rattle.definition.specs.Limits.{widthLimit, heightLimit}
 
@@ -217,15 +219,15 @@ given u =
       h = u .h;
       edges = 0;
       stride = u .w;
-      lumaStride = 0;
+      «luma_stride» = 0;
       off = 0;
-      topOff = 0;
-      bottomOff = 0;
-      lumaOff = 0;
-      lumaTopOff = 0;
-      lumaBottomOff = 0;
-      ssHor = 0;
-      ssVer = 0;
+      «top_off» = 0;
+      «bottom_off» = 0;
+      «luma_off» = 0;
+      «luma_top_off» = 0;
+      «luma_bottom_off» = 0;
+      «ss_hor» = 0;
+      «ss_ver» = 0;
       kind = 0;
     }
 
@@ -247,7 +249,7 @@ lent u =
     }
 
 unfoldable pub restoredPlane : CardUnit → List ℕ
-restoredPlane u = tab (u .w * u .h) (λ i. finalSample (given u) (lent u) (joined (u .rows)) luma (i / u .w) (i % u .w))
+restoredPlane u = tab (u .w * u .h) (λ i. finalSample (given u) (lent u) (joined (u .rows)) Luma (i / u .w) (i % u .w))
 
 unfoldable pub filtered : CardUnit → ℕ
 filtered u = piecesOf (spread (u .skip)) (u .w / side) 0 (u .h)

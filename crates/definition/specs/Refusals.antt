@@ -4,11 +4,14 @@ use mathlib.Core.List.{List, [], _∷_}
 use Prim.Native.Nat.{ℕ, zero, suc, _+_, _-_, _*_, _/_, _%_, _^_}
 use lib.Dec.{ltb, leb, eqb}
 use lib.ListN.{length, getD}
+use Rattle.definition.specs.declared.Operation.{Operation}
+use Rattle.definition.specs.declared.Given.{Given}
+use Rattle.definition.specs.declared.Sizes.{Sizes}
 use Rattle.definition.specs.Padding.{hasLeft, hasRight, hasTop, hasBottom, topIntegrated, bottomIntegrated}
 use Rattle.definition.specs.Blocks.{side}
-use Rattle.definition.specs.Limits.{widthLimit, heightLimit, blockRowLimit, strideLimit, mapSize}
+use Rattle.definition.specs.Limits.{widthLimit, heightLimit, blockColumnLimit, blockRowLimit, strideLimit, mapSize}
 use Rattle.definition.specs.ClassIndex.{lastColumn}
-use Rattle.definition.specs.Units.{Operation, luma, user, pretrained, chroma, border, setSize, Given, Lent}
+use Rattle.definition.specs.Units.{border, classed, chromatic, setSize, Lent}
 
 -- a condition with the number that is returned where it holds
 infix 30 _⇒_
@@ -42,12 +45,9 @@ badSampling ssHor ssVer kind = ltb 1 ssHor || ltb ssHor ssVer || ltb 2 kind
 abbrev pub beside : Bool → ℕ → ℕ
 beside bit e = cond bit e 0
 
--- saved rows that are padded from above: luma 4 where integrated, else 2; chroma 2; none without a top bit
+-- saved rows that are padded from above: e where integrated, else 2 under the top bit
 abbrev pub topRows : Operation → ℕ → ℕ
-topRows chroma edges = cond (topIntegrated edges || hasTop edges) 2 0
-topRows luma edges = cond (topIntegrated edges) 4 (cond (hasTop edges) 2 0)
-topRows user edges = cond (topIntegrated edges) 4 (cond (hasTop edges) 2 0)
-topRows pretrained edges = cond (topIntegrated edges) 4 (cond (hasTop edges) 2 0)
+topRows op edges = cond (topIntegrated edges) (border op) (cond (hasTop edges) 2 0)
 
 -- .. and below: 2 under the bottom bit, unless it is integrated; then rows of the plane itself
 abbrev pub bottomRows : ℕ → ℕ
@@ -56,26 +56,12 @@ bottomRows edges = cond (bottomIntegrated edges) 0 (cond (hasBottom edges) 2 0)
 abbrev pub planeRows : Operation → ℕ → ℕ
 planeRows op edges = beside (bottomIntegrated edges) (border op)
 
--- what the table asks of all that is lent: lengths, and whether a class map is wrong
-pub record Sizes : Type 0 where
-  pub plane : ℕ
-  pub left : ℕ
-  pub top : ℕ
-  pub bottom : ℕ
-  pub lumaPlane : ℕ
-  pub lumaTop : ℕ
-  pub lumaBottom : ℕ
-  pub skip : ℕ
-  pub noskip : ℕ
-  pub filters : ℕ
-  pub badMap : Bool
-
--- classed: map not 4,096, an entry past the subclass list, a subclass past the filters
-abbrev pub badMapOf : Operation → Lent → Bool
-badMapOf op l =
-    not (eqb (length (l .map)) mapSize) ||
-    not (every (λ m. ltb m (length (l .subclass))) (l .map)) ||
-    not (every (λ c. ltb c (length (l .filters) / setSize op)) (l .subclass))
+-- classed: map not 4,096, an entry past the subclass list, a subclass past the filters (so many numbers)
+abbrev pub badMap : Operation → List ℕ → List ℕ → ℕ → Bool
+badMap op map subclass filters =
+    not (eqb (length map) mapSize) ||
+    not (every (λ m. ltb m (length subclass)) map) ||
+    not (every (λ c. ltb c (filters / setSize op)) subclass)
 
 abbrev pub sizesOf : Operation → Lent → List ℕ → Sizes
 sizesOf op l plane =
@@ -84,16 +70,16 @@ sizesOf op l plane =
       left = length (l .left);
       top = length (l .top);
       bottom = length (l .bottom);
-      lumaPlane = length (l .lumaPlane);
-      lumaTop = length (l .lumaTop);
-      lumaBottom = length (l .lumaBottom);
+      «luma_plane» = length (l .lumaPlane);
+      «luma_top» = length (l .lumaTop);
+      «luma_bottom» = length (l .lumaBottom);
       skip = length (l .skip);
       noskip = length (l .noskip);
       filters = length (l .filters);
-      badMap = badMapOf op l;
+      «bad_map» = badMap op (l .map) (l .subclass) (length (l .filters));
     }
 
-module _ (op : Operation) (g : Given) (z : Sizes) where
+module _ (g : Given) where
   -- before and behind a row; e is four for luma rows of a chroma unit too
   abbrev pub leftOf : ℕ → ℕ
   leftOf e = beside (hasLeft (g .edges)) e
@@ -101,96 +87,83 @@ module _ (op : Operation) (g : Given) (z : Sizes) where
   abbrev pub rightOf : ℕ → ℕ
   rightOf e = beside (hasRight (g .edges)) e
 
-  -- 3: stride under w, or under w + e with the right bit; a stride (luma's too) over the limit
-  abbrev pub badLumaStride : Operation → Bool
-  badLumaStride chroma = ltb strideLimit (g .lumaStride)
-  badLumaStride luma = false
-  badLumaStride user = false
-  badLumaStride pretrained = false
-
-  abbrev pub badStride : Bool
-  badStride = ltb (g .stride) (g .w + rightOf (border op)) || ltb strideLimit (g .stride) || badLumaStride op
-
-  -- 4: chroma: other pair, or kind not 0 .. 2
-  abbrev pub badPair : Operation → Bool
-  badPair chroma = badSampling (g .ssHor) (g .ssVer) (g .kind)
-  badPair luma = false
-  badPair user = false
-  badPair pretrained = false
-
-  -- 5: a sample of the unit's own plane that is written or padded from lies outside, masked or not
-  abbrev pub badPlane : Bool
-  badPlane = outside (z .plane) (g .off) (g .stride) (g .h + planeRows op (g .edges)) (g .w) 0 (rightOf (border op))
-
-  -- 6: left bit, list under 6h bytes
-  abbrev pub badLeft : Bool
-  badLeft = hasLeft (g .edges) && ltb (z .left) (6 * g .h)
-
-  -- 7, 8: a saved sample of the unit's own plane that is padded from lies outside
-  abbrev pub badTop : Bool
-  badTop = outside (z .top) (g .topOff) (g .stride) (topRows op (g .edges)) (g .w) (leftOf (border op)) (rightOf (border op))
-
-  abbrev pub badBottom : Bool
-  badBottom = outside (z .bottom) (g .bottomOff) (g .stride) (bottomRows (g .edges)) (g .w) (leftOf (border op)) (rightOf (border op))
-
-  -- 9: masks: skip under h numbers; noskip under one for each block row (classed)
-  abbrev pub badNoskip : Operation → Bool
-  badNoskip luma = false
-  badNoskip chroma = false
-  badNoskip user = ltb (z .noskip) (g .h / side)
-  badNoskip pretrained = ltb (z .noskip) (g .h / side)
-
-  abbrev pub badMasks : Bool
-  badMasks = ltb (z .skip) (g .h) || badNoskip op
-
-  -- 10: luma filter not 16, chroma not 18 numbers; classed: filters not whole sets of 18 or 13, or the map is wrong
-  abbrev pub badFilters : Operation → Bool
-  badFilters luma = not (eqb (z .filters) (setSize luma))
-  badFilters chroma = not (eqb (z .filters) (setSize chroma))
-  badFilters user = not (eqb (z .filters % setSize user) 0) || z .badMap
-  badFilters pretrained = not (eqb (z .filters % setSize pretrained) 0) || z .badMap
-
-  -- 11: chroma: a sample of the luma plane or its saved borders that is padded from lies outside. The lower of two rows under kind 2 is not padded from.
+  -- luma rows of a chroma unit that are padded from: under kind 2 the lower of two is not
   abbrev pub lumaRows : ℕ → ℕ
-  lumaRows rows = cond (eqb (g .ssVer) 1 && eqb (g .kind) 2) (rows - 1) rows
+  lumaRows rows = cond (eqb (g .«ss_ver») 1 && eqb (g .kind) 2) (rows - 1) rows
 
-  -- luma rows above the unit's first and from it on
+  -- .. above the unit's first, from it on, and saved ones above
   abbrev pub lumaAbove : ℕ
-  lumaAbove = beside (topIntegrated (g .edges)) (2 * 2 ^ g .ssVer)
+  lumaAbove = beside (topIntegrated (g .edges)) (2 * 2 ^ g .«ss_ver»)
 
   abbrev pub lumaDown : ℕ
-  lumaDown = lumaRows (2 ^ g .ssVer * (g .h + beside (bottomIntegrated (g .edges)) 2))
-
-  abbrev pub lumaOutside : ℕ → ℕ → ℕ → ℕ → Bool
-  lumaOutside len off rows above =
-      outside len off (g .lumaStride) rows (g .w * 2 ^ g .ssHor) (above * g .lumaStride + leftOf 4) (rightOf 4)
+  lumaDown = lumaRows (2 ^ g .«ss_ver» * (g .h + beside (bottomIntegrated (g .edges)) 2))
 
   abbrev pub lumaTopRows : ℕ
   lumaTopRows = cond (topIntegrated (g .edges)) 0 (cond (hasTop (g .edges)) (lumaRows 2) 0)
 
-  abbrev pub badLuma : Operation → Bool
-  badLuma chroma =
-      lumaOutside (z .lumaPlane) (g .lumaOff) lumaDown lumaAbove ||
-      lumaOutside (z .lumaTop) (g .lumaTopOff) lumaTopRows 0 ||
-      lumaOutside (z .lumaBottom) (g .lumaBottomOff) (bottomRows (g .edges)) 0
-  badLuma luma = false
-  badLuma user = false
-  badLuma pretrained = false
+  abbrev pub lumaOutside : ℕ → ℕ → ℕ → ℕ → Bool
+  lumaOutside len off rows above =
+      outside len off (g .«luma_stride») rows (g .w * 2 ^ g .«ss_hor») (above * g .«luma_stride» + leftOf 4) (rightOf 4)
+
+module _ (op : Operation) (g : Given) where
+  -- 3: stride under w, or under w + e with the right bit; a stride (luma's too) over the limit
+  abbrev pub badStride : Bool
+  badStride =
+      ltb (g .stride) (g .w + rightOf g (border op)) || ltb strideLimit (g .stride) || (chromatic op && ltb strideLimit (g .«luma_stride»))
+
+  -- 4: chroma: other pair, or kind not 0 .. 2
+  abbrev pub badPair : Bool
+  badPair = chromatic op && badSampling (g .«ss_hor») (g .«ss_ver») (g .kind)
+
+module _ (g : Given) (z : Sizes) where
+  -- 6: left bit, list under 6h bytes
+  abbrev pub badLeft : Bool
+  badLeft = hasLeft (g .edges) && ltb (z .left) (6 * g .h)
+
+  -- 11: a sample of the luma plane or its saved borders that is padded from lies outside
+  abbrev pub anyLumaOutside : Bool
+  anyLumaOutside =
+      lumaOutside g (z .«luma_plane») (g .«luma_off») (lumaDown g) (lumaAbove g) ||
+      lumaOutside g (z .«luma_top») (g .«luma_top_off») (lumaTopRows g) 0 ||
+      lumaOutside g (z .«luma_bottom») (g .«luma_bottom_off») (bottomRows (g .edges)) 0
+
+module _ (op : Operation) (g : Given) (z : Sizes) where
+  -- 5: a sample of the unit's own plane that is written or padded from lies outside, masked or not
+  abbrev pub badPlane : Bool
+  badPlane = outside (z .plane) (g .off) (g .stride) (g .h + planeRows op (g .edges)) (g .w) 0 (rightOf g (border op))
+
+  -- 7, 8: a saved sample of the unit's own plane that is padded from lies outside
+  abbrev pub badTop : Bool
+  badTop = outside (z .top) (g .«top_off») (g .stride) (topRows op (g .edges)) (g .w) (leftOf g (border op)) (rightOf g (border op))
+
+  abbrev pub badBottom : Bool
+  badBottom = outside (z .bottom) (g .«bottom_off») (g .stride) (bottomRows (g .edges)) (g .w) (leftOf g (border op)) (rightOf g (border op))
+
+  -- 9: masks: skip under h numbers; noskip under one for each block row (classed)
+  abbrev pub badMasks : Bool
+  badMasks = ltb (z .skip) (g .h) || (classed op && ltb (z .noskip) (g .h / side))
+
+  -- 10: luma filter not 16, chroma not 18 numbers; classed: filters not whole sets of 18 or 13, or the map is wrong
+  abbrev pub badFilters : Bool
+  badFilters = cond (classed op) (not (eqb (z .filters % setSize op) 0) || z .«bad_map») (not (eqb (z .filters) (setSize op)))
+
+  abbrev pub badLuma : Bool
+  badLuma = chromatic op && anyLumaOutside g z
 
   -- the table, in its order
   abbrev pub unitChecks : List Check
   unitChecks =
       (not (sized widthLimit (g .w)) ⇒ 1) ∷
       (not (sized heightLimit (g .h)) ⇒ 2) ∷
-      (badStride ⇒ 3) ∷
-      (badPair op ⇒ 4) ∷
+      (badStride op g ⇒ 3) ∷
+      (badPair op g ⇒ 4) ∷
       (badPlane ⇒ 5) ∷
-      (badLeft ⇒ 6) ∷
+      (badLeft g z ⇒ 6) ∷
       (badTop ⇒ 7) ∷
       (badBottom ⇒ 8) ∷
       (badMasks ⇒ 9) ∷
-      (badFilters op ⇒ 10) ∷
-      (badLuma op ⇒ 11) ∷
+      (badFilters ⇒ 10) ∷
+      (badLuma ⇒ 11) ∷
       []
 
   -- the status of a unit that is opened
@@ -199,16 +172,10 @@ module _ (op : Operation) (g : Given) (z : Sizes) where
 
 -- 13, in two parts. The state's shape: of another operation, rows done over h, a row index over 9 or a next row over 8 (chroma: either over 4).
 abbrev pub indexLimit : Operation → ℕ
-indexLimit chroma = 4
-indexLimit luma = 9
-indexLimit user = 9
-indexLimit pretrained = 9
+indexLimit op = cond (chromatic op) 4 9
 
 abbrev pub nextLimit : Operation → ℕ
-nextLimit chroma = 4
-nextLimit luma = 8
-nextLimit user = 8
-nextLimit pretrained = 8
+nextLimit op = cond (chromatic op) 4 8
 
 -- whether the first n of a list pass a test
 unfoldable pub firstPass : (ℕ → Bool) → ℕ → List ℕ → Bool
@@ -225,10 +192,7 @@ badShape op other done h indices next =
 
 -- .. and, classed, a kept class past the filters
 abbrev pub badKept : Operation → List ℕ → ℕ → Bool
-badKept luma classes numbers = false
-badKept chroma classes numbers = false
-badKept user classes numbers = not (firstPass (λ c. ltb c (numbers / setSize user)) 16 classes)
-badKept pretrained classes numbers = not (firstPass (λ c. ltb c (numbers / setSize pretrained)) 16 classes)
+badKept op classes filters = classed op && not (firstPass (λ c. ltb c (filters / setSize op)) blockColumnLimit classes)
 
 -- THE CLASS INDEX: 12 precedes all; then 5 for rows under 760 bytes or a row index over 9, and 9 for noskip under one for each block row
 abbrev pub rowsSize : ℕ

@@ -8,6 +8,40 @@ pub enum Operation {
     Chroma,
 }
 
+// The numbers that a unit is opened with; what its operation does not use is 0.
+#[repr(C)]
+pub struct Given {
+    pub w: usize,
+    pub h: usize,
+    pub edges: usize,
+    pub stride: usize,
+    pub luma_stride: usize,
+    pub off: usize,
+    pub top_off: usize,
+    pub bottom_off: usize,
+    pub luma_off: usize,
+    pub luma_top_off: usize,
+    pub luma_bottom_off: usize,
+    pub ss_hor: usize,
+    pub ss_ver: usize,
+    pub kind: usize,
+}
+
+// What the table of refusals asks of all that is lent: the lengths, and whether a class map is wrong.
+pub struct Sizes {
+    pub plane: usize,
+    pub left: usize,
+    pub top: usize,
+    pub bottom: usize,
+    pub luma_plane: usize,
+    pub luma_top: usize,
+    pub luma_bottom: usize,
+    pub skip: usize,
+    pub noskip: usize,
+    pub filters: usize,
+    pub bad_map: bool,
+}
+
 // Samples to a block's side, and the largest sample at 8 bits.
 pub const SIDE: usize = 4;
 

@@ -12,10 +12,10 @@ use Rattle.definition.specs.Rows.{indexCount}
 use Rattle.definition.specs.ClassIndex.{lastColumn}
 use Rattle.definition.specs.Refusals.{rowsSize, indicesUpTo}
 use Rattle.laws.proofs.Passes.{both, pass-at, inside}
-use Rattle.features.specs.Features.{rowsStatus, blockStatus, featureRow, featureSums, served, Rows}
+use Rattle.features.specs.Features.{rowsStatus, blockStatus, featureRow, featureSums, served, TenRows}
 
 -- the rows lie inside, and so do the blocks
-pub rows-inside : (rows indices : List ℕ) (fine : Bool) → rowsStatus (length rows) indices fine ≡ 0 → Rows rows indices × (fine ≡ true)
+pub rows-inside : (rows indices : List ℕ) (fine : Bool) → rowsStatus (length rows) indices fine ≡ 0 → TenRows rows indices × (fine ≡ true)
 unfolding rowsStatus
 rows-inside rows indices fine e =
     let p = both (leb rowsSize (length rows) && indicesUpTo 9 indices) fine (inside (leb rowsSize (length rows) && indicesUpTo 9 indices && fine) e) in

@@ -1,4 +1,4 @@
--- The features of one block and of the first n blocks of a block row, and the sums down its columns that they are taken from. Rows are ten, one behind the other,
+-- The features of one block and of the first n blocks of a block row, and the sums down its columns that they are taken from. TenRows are ten, one behind the other,
 -- reached by ten row indices, of which the fifth is the blocks' first row; the unit's first sample is byte 6.
 use mathlib.Core.Bool.{Bool, _&&_}
 use mathlib.Core.List.{List, [], _∷_}
@@ -49,7 +49,7 @@ served zero n = n
 served (suc status) n = 0
 
 -- the indices lead to rows that lie inside
-pub record Rows (rows indices : List ℕ) : Type 0 where
+pub record TenRows (rows indices : List ℕ) : Type 0 where
   pub size : rowsSize ≤ length rows
   pub low : (j : ℕ) → j < indexCount → getD indices j 0 ≤ 9
 

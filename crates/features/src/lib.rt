@@ -9,7 +9,7 @@ ghost use Rattle.definition.specs.Limits.{blockColumnLimit};
 ghost use Rattle.definition.specs.Rows.{rowBytes, indexCount};
 ghost use Rattle.definition.specs.ClassIndex.{lastColumn};
 ghost use Rattle.definition.specs.Refusals.{rowsSize};
-ghost use Rattle.features.specs.Features.{rowsStatus, rowStatus, blockStatus, featureRow, featureAt, featureSums, served, columnBend, columnSum, bendLimit, columnLimit, columnCount, Rows};
+ghost use Rattle.features.specs.Features.{rowsStatus, rowStatus, blockStatus, featureRow, featureAt, featureSums, served, columnBend, columnSum, bendLimit, columnLimit, columnCount, TenRows};
 use definition::BLOCK_COLUMN_LIMIT;
 use definition::INDEX_COUNT;
 use definition::LAST_COLUMN;
@@ -50,7 +50,7 @@ fn bend_at(
     m: usize,
     z: usize,
 ) -> u16
-    requires { ⌜ Rows (now rows) (now indices) ⌝ }
+    requires { ⌜ TenRows (now rows) (now indices) ⌝ }
     requires { ⌜ (i < 6) × (a < rowBytes) × (m < rowBytes) × (z < rowBytes) ⌝ }
     ensures { λ r. ⌜ (r ≡ columnBend (now (rows .entry)) (now (indices .entry)) a m z i) × (r ≤ bendLimit) ⌝ }
 {
@@ -62,7 +62,7 @@ fn bend_at(
 
 // The bends of all six rows. They are written out, so that the rows' places stay in locals.
 fn column_sum(rows: &[u8], indices: &[usize; INDEX_COUNT], a: usize, m: usize, z: usize) -> u16
-    requires { ⌜ Rows (now rows) (now indices) ⌝ }
+    requires { ⌜ TenRows (now rows) (now indices) ⌝ }
     requires { ⌜ (a < rowBytes) × (m < rowBytes) × (z < rowBytes) ⌝ }
     ensures { λ r. ⌜ (r ≡ columnSum (now (rows .entry)) (now (indices .entry)) a m z) × (r ≤ columnLimit) ⌝ }
 {
@@ -84,7 +84,7 @@ fn column_sums(
     m: usize,
     n: usize,
 ) -> [u16; COLUMN_COUNT]
-    requires { ⌜ Rows (now rows) (now indices) ⌝ }
+    requires { ⌜ TenRows (now rows) (now indices) ⌝ }
     requires { ⌜ (a ≤ 4) × (z ≤ 4) × (m ≤ n) × (n ≤ columnCount) ⌝ }
     ensures { λ r. ⌜ ((k : ℕ) → m ≤ k → k < n → (getD r k 0 ≡ columnSum (now (rows .entry)) (now (indices .entry)) (a + k) (3 + k) (z + k)) × (getD r k 0 ≤ columnLimit)) ⌝ }
 {
@@ -121,7 +121,7 @@ fn feature_row(
     z: usize,
     n: usize,
 ) -> [u16; BLOCK_COLUMN_LIMIT]
-    requires { ⌜ Rows (now rows) (now indices) ⌝ }
+    requires { ⌜ TenRows (now rows) (now indices) ⌝ }
     requires { ⌜ (a ≤ 4) × (z ≤ 4) × (a + z ≡ 6) × (n ≤ blockColumnLimit) ⌝ }
     ensures { λ r. ⌜ r ≡ featureRow n (featureAt (now (rows .entry)) (now (indices .entry)) (pos a -ℤ pos 3)) ⌝ }
 {
@@ -137,7 +137,7 @@ fn feature_row(
 
 // One feature of the block in column bx. Eight columns are summed, as they are taken at a time; six are the block's.
 fn feature(rows: &[u8], indices: &[usize; INDEX_COUNT], a: usize, z: usize, bx: usize) -> u16
-    requires { ⌜ Rows (now rows) (now indices) ⌝ }
+    requires { ⌜ TenRows (now rows) (now indices) ⌝ }
     requires { ⌜ (a ≤ 4) × (z ≤ 4) × (a + z ≡ 6) × (bx ≤ lastColumn) ⌝ }
     ensures { λ r. ⌜ r ≡ featureAt (now (rows .entry)) (now (indices .entry)) (pos a -ℤ pos 3) bx ⌝ }
 {

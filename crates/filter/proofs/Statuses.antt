@@ -12,11 +12,11 @@ use Rattle.definition.specs.Refusals.{indicesUpTo, rowsSize}
 use Rattle.definition.specs.Rows.{rowBytes, lumaRowBytes, lumaRowsAt, indexCount, stateBytes}
 use Rattle.laws.proofs.Passes.{both, pass-at, inside}
 use Rattle.filter.specs.Runs.{runStatus, uvStatus, windowInside}
-use Rattle.filter.specs.Windows.{ownInside, OwnInside, Turned, Rows, Eight}
+use Rattle.filter.specs.Windows.{ownInside, OwnInside, Turned, RowsReached, Eight}
 use Rattle.filter.specs.Gathered.{Gatherable}
 
 -- ten indices up to a limit lead to rows that lie inside, where limit + 1 rows do
-rows-inside : (first size limit : ℕ) (rows indices : List ℕ) → first + size * limit + size ≤ length rows → indicesUpTo limit indices ≡ true → Rows first size rows indices
+rows-inside : (first size limit : ℕ) (rows indices : List ℕ) → first + size * limit + size ≤ length rows → indicesUpTo limit indices ≡ true → RowsReached first size rows indices
 rows-inside first size limit rows indices room e =
     record {
       inside = λ j h.

@@ -9,7 +9,7 @@ use Rattle.definition.specs.Numbers.{sumZ}
 use Rattle.definition.specs.Rows.{tab, rowBytes, lumaRowBytes, lumaRowsAt, chromaFlat}
 use Rattle.definition.specs.Sample.{limit8, rounded, dyOf, dxOf, centre, nsTap, nsConfigUv, nsConfigUvFromY}
 use Rattle.filter.specs.Runs.{coefficients}
-use Rattle.filter.specs.Windows.{Rows, Summed, pairLimit}
+use Rattle.filter.specs.Windows.{RowsReached, Summed, pairLimit}
 
 -- every `step`-th byte from `from` on
 abbrev pub every : List ℕ → ℕ → ℕ → ℕ → ℕ
@@ -17,7 +17,7 @@ every rows from step j = getD rows (from + j * step) 0
 
 -- n + 4 bytes of each row of luma, every `step`-th from column `first` on, lie in the row
 pub record Gatherable (rows indices : List ℕ) (first step n : ℕ) : Type 0 where
-  pub inside : Rows lumaRowsAt lumaRowBytes rows indices
+  pub inside : RowsReached lumaRowsAt lumaRowBytes rows indices
   pub columns : (j : ℕ) → j < n + 4 → first + j * step < lumaRowBytes
   pub short : n + 4 ≤ rowBytes
 

@@ -18,7 +18,7 @@ abbrev pub ownInside : ℕ → ℕ → List ℕ → ℕ → ℕ → ℕ → ℕ 
 ownInside dst rows indices col0 n size limit e = leb n dst && leb size rows && indicesUpTo limit indices && windowInside rowBytes e col0 n
 
 -- the ten indices lead to rows of `size` bytes, from `first` on, that lie inside
-pub record Rows (first size : ℕ) (rows indices : List ℕ) : Type 0 where
+pub record RowsReached (first size : ℕ) (rows indices : List ℕ) : Type 0 where
   pub inside : (j : ℕ) → j < indexCount → first + size * getD indices j 0 + size ≤ length rows
 
 -- a tap of at most 4 rows and columns that leads neither out of the ten indices nor out of the row
@@ -62,7 +62,7 @@ pub record TapPair (s : ℤ → ℤ → ℕ) (taps : List (List ℤ)) (k r : ℕ
 
 -- the bytes from `reach` before byte col to `reach` behind it lie in each of those rows
 pub record Window (first size reach : ℕ) (rows indices : List ℕ) (col : ℕ) : Type 0 where
-  pub inside : Rows first size rows indices
+  pub inside : RowsReached first size rows indices
   pub left : reach ≤ col
   pub right : col + reach < size
 
@@ -78,7 +78,7 @@ pub record Eight (reach : ℕ) (rows indices : List ℕ) (at : ℕ) : Type 0 whe
 -- a run of n samples from byte col0 on over its own rows, with `reach` columns on both sides
 pub record OwnInside (reach dst : ℕ) (rows indices : List ℕ) (col0 n : ℕ) : Type 0 where
   pub room : n ≤ dst
-  pub inside : Rows 0 rowBytes rows indices
+  pub inside : RowsReached 0 rowBytes rows indices
   pub left : reach ≤ col0
   pub right : col0 + n + reach ≤ rowBytes
 

@@ -6,7 +6,7 @@ ghost use Rattle.definition.specs.Numbers.{clipTo};
 ghost use Rattle.definition.specs.Rows.{flatAround, rowBytes, indexCount};
 ghost use Rattle.definition.specs.Sample.{limit8, rounded, centre};
 ghost use Rattle.filter.specs.Runs.{runStatus};
-ghost use Rattle.filter.specs.Windows.{ownInside, Rows, Spot, PairAt, pairLimit, startLimit, nsTapLimit};
+ghost use Rattle.filter.specs.Windows.{ownInside, RowsReached, Spot, PairAt, pairLimit, startLimit, nsTapLimit};
 use definition::INDEX_COUNT;
 use definition::ROW_BYTES;
 use definition::ROWS_SIZE;
@@ -100,7 +100,7 @@ fn byte_at(
     dy: i8,
     dx: i8,
 ) -> u8
-    requires { ⌜ Rows first size (now rows) (now indices) ⌝ }
+    requires { ⌜ RowsReached first size (now rows) (now indices) ⌝ }
     requires { ⌜ Spot size mid col dy dx ⌝ }
     ensures { λ r. ⌜ r ≡ flatAround first size mid (now (rows .entry)) (now (indices .entry)) col dy dx ⌝ }
 {
@@ -110,7 +110,7 @@ fn byte_at(
 
 // The byte col of the row that index mid leads to: what the taps are taken around.
 pub fn centre_at(rows: &[u8], indices: &[usize; INDEX_COUNT], mid: usize, col: usize) -> u8
-    requires { ⌜ Rows 0 rowBytes (now rows) (now indices) ⌝ }
+    requires { ⌜ RowsReached 0 rowBytes (now rows) (now indices) ⌝ }
     requires { ⌜ (mid < indexCount) × (col < rowBytes) ⌝ }
     ensures { λ r. ⌜ r ≡ centre (flatAround 0 rowBytes mid (now (rows .entry)) (now (indices .entry)) col) ⌝ }
 {
@@ -126,7 +126,7 @@ pub fn pair_at(
     dy: i8,
     dx: i8,
 ) -> u32
-    requires { ⌜ Rows 0 rowBytes (now rows) (now indices) ⌝ }
+    requires { ⌜ RowsReached 0 rowBytes (now rows) (now indices) ⌝ }
     requires { ⌜ Spot rowBytes mid col dy dx ⌝ }
     ensures { λ r. ⌜ PairAt (flatAround 0 rowBytes mid (now (rows .entry)) (now (indices .entry)) col) dy dx r ⌝ }
 {
@@ -145,7 +145,7 @@ pub fn ns_tap(s: i32, p: u32, m: u8, c: i8) -> i32
 
 // 128 times the centre, from which the luma and chroma filters start.
 pub fn ns_start(rows: &[u8], indices: &[usize; INDEX_COUNT], mid: usize, col: usize) -> i32
-    requires { ⌜ Rows 0 rowBytes (now rows) (now indices) ⌝ }
+    requires { ⌜ RowsReached 0 rowBytes (now rows) (now indices) ⌝ }
     requires { ⌜ (mid < indexCount) × (col < rowBytes) ⌝ }
     ensures { λ r. ⌜ (r ≡ pos (128 * centre (flatAround 0 rowBytes mid (now (rows .entry)) (now (indices .entry)) col))) × (natAbs r ≤ startLimit) ⌝ }
 {

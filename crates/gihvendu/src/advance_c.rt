@@ -1,7 +1,6 @@
-ghost use Rattle.definition.specs.Units.{luma, chroma};
-ghost use Rattle.units.specs.Operations.{answer, Answered};
-ghost use Rattle.units.specs.Advances.{callOf};
+ghost use Rattle.definition.specs.declared.Operation.the-variants.{Luma, Chroma};
 ghost use Rattle.units.specs.Lent.{chromaLent};
+ghost use Rattle.units.specs.Advances.{answer, Answered, callOf};
 use units::Advanced;
 use units::State;
 
@@ -19,7 +18,7 @@ pub extern "C" fn gihvendu_advance_c<'a>(
     luma_bottom: &'a [u8],
     skip: &[u16],
 ) -> Advanced
-    ensures { λ r. ⌜ Answered r (now (p .exit)) (answer (callOf chroma count (chromaLent (now (left .entry)) (now (lpf .entry)) (now («lpf_bottom» .entry)) (now (filter .entry)) (now (luma .entry)) (now («luma_top» .entry)) (now («luma_bottom» .entry)) (now (skip .entry)))) state (now (p .entry))) ⌝ }
+    ensures { λ r. ⌜ Answered r (now (p .exit)) (answer (callOf Chroma count (chromaLent (now (left .entry)) (now (lpf .entry)) (now («lpf_bottom» .entry)) (now (filter .entry)) (now (luma .entry)) (now («luma_top» .entry)) (now («luma_bottom» .entry)) (now (skip .entry)))) state (now (p .entry))) ⌝ }
 {
     state.advance_c(
         count,

@@ -1,7 +1,6 @@
-ghost use Rattle.definition.specs.Units.{pretrained};
-ghost use Rattle.units.specs.Operations.{answer, Answered};
-ghost use Rattle.units.specs.Advances.{callOf};
+ghost use Rattle.definition.specs.declared.Operation.the-variants.{Pretrained};
 ghost use Rattle.units.specs.Lent.{classedLent};
+ghost use Rattle.units.specs.Advances.{answer, Answered, callOf};
 use units::Advanced;
 use units::State;
 
@@ -20,7 +19,7 @@ pub extern "C" fn gihvendu_advance_p(
     base_q: i32,
     skip: &[u16],
 ) -> Advanced
-    ensures { λ r. ⌜ Answered r (now (p .exit)) (answer (callOf pretrained count (classedLent (now (left .entry)) (now (lpf .entry)) (now («lpf_bottom» .entry)) (now (filters .entry)) (now (map .entry)) (now (subclass .entry)) (now (noskip .entry)) (now (skip .entry)) «base_q»)) state (now (p .entry))) ⌝ }
+    ensures { λ r. ⌜ Answered r (now (p .exit)) (answer (callOf Pretrained count (classedLent (now (left .entry)) (now (lpf .entry)) (now («lpf_bottom» .entry)) (now (filters .entry)) (now (map .entry)) (now (subclass .entry)) (now (noskip .entry)) (now (skip .entry)) «base_q»)) state (now (p .entry))) ⌝ }
 {
     state.advance_p(
         count,

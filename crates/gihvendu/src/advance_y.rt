@@ -1,7 +1,6 @@
-ghost use Rattle.definition.specs.Units.{luma};
-ghost use Rattle.units.specs.Operations.{answer, Answered};
-ghost use Rattle.units.specs.Advances.{callOf};
+ghost use Rattle.definition.specs.declared.Operation.the-variants.{Luma};
 ghost use Rattle.units.specs.Lent.{lumaLent};
+ghost use Rattle.units.specs.Advances.{answer, Answered, callOf};
 use units::Advanced;
 use units::State;
 
@@ -16,7 +15,7 @@ pub extern "C" fn gihvendu_advance_y(
     filter: &[i8],
     skip: &[u16],
 ) -> Advanced
-    ensures { λ r. ⌜ Answered r (now (p .exit)) (answer (callOf luma count (lumaLent (now (left .entry)) (now (lpf .entry)) (now («lpf_bottom» .entry)) (now (filter .entry)) (now (skip .entry)))) state (now (p .entry))) ⌝ }
+    ensures { λ r. ⌜ Answered r (now (p .exit)) (answer (callOf Luma count (lumaLent (now (left .entry)) (now (lpf .entry)) (now («lpf_bottom» .entry)) (now (filter .entry)) (now (skip .entry)))) state (now (p .entry))) ⌝ }
 {
     state.advance_y(count, p, left, lpf, lpf_bottom, filter, skip)
 }

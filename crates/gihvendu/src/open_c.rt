@@ -1,5 +1,5 @@
-ghost use Rattle.definition.specs.Units.{luma, chroma};
-ghost use Rattle.units.specs.Openings.{Begun, numbersC};
+ghost use Rattle.definition.specs.declared.Operation.the-variants.{Luma, Chroma};
+ghost use Rattle.units.specs.Openings.{Begun, givenC};
 ghost use Rattle.units.specs.Lent.{chromaLent};
 use units::Opened;
 
@@ -29,7 +29,7 @@ pub extern "C" fn gihvendu_open_c<'a>(
     edges: usize,
     skip: &[u16],
 ) -> Opened
-    ensures { λ r. ⌜ Begun chroma r (numbersC w h edges stride lstride «p_off» «lpf_off» «lpf_bottom_off» «luma_off» «luma_top_off» «luma_bottom_off» «ss_hor» «ss_ver» «ds_flt») (chromaLent (now (left .entry)) (now (lpf .entry)) (now («lpf_bottom» .entry)) (now (filter .entry)) (now (luma .entry)) (now («luma_top» .entry)) (now («luma_bottom» .entry)) (now (skip .entry))) (now (p .entry)) ⌝ }
+    ensures { λ r. ⌜ Begun Chroma r (givenC w h edges stride lstride «p_off» «lpf_off» «lpf_bottom_off» «luma_off» «luma_top_off» «luma_bottom_off» «ss_hor» «ss_ver» «ds_flt») (chromaLent (now (left .entry)) (now (lpf .entry)) (now («lpf_bottom» .entry)) (now (filter .entry)) (now (luma .entry)) (now («luma_top» .entry)) (now («luma_bottom» .entry)) (now (skip .entry))) (now (p .entry)) ⌝ }
 {
     units::open_c(
         p,

@@ -1,5 +1,5 @@
-ghost use Rattle.definition.specs.Units.{pretrained};
-ghost use Rattle.units.specs.Openings.{Begun, numbersY};
+ghost use Rattle.definition.specs.declared.Operation.the-variants.{Pretrained};
+ghost use Rattle.units.specs.Openings.{Begun, givenY};
 ghost use Rattle.units.specs.Lent.{classedLent};
 use units::Opened;
 
@@ -23,7 +23,7 @@ pub extern "C" fn gihvendu_open_p(
     edges: usize,
     skip: &[u16],
 ) -> Opened
-    ensures { λ r. ⌜ Begun pretrained r (numbersY w h edges stride «p_off» «lpf_off» «lpf_bottom_off») (classedLent (now (left .entry)) (now (lpf .entry)) (now («lpf_bottom» .entry)) (now (filters .entry)) (now (map .entry)) (now (subclass .entry)) (now (noskip .entry)) (now (skip .entry)) «base_q») (now (p .entry)) ⌝ }
+    ensures { λ r. ⌜ Begun Pretrained r (givenY w h edges stride «p_off» «lpf_off» «lpf_bottom_off») (classedLent (now (left .entry)) (now (lpf .entry)) (now («lpf_bottom» .entry)) (now (filters .entry)) (now (map .entry)) (now (subclass .entry)) (now (noskip .entry)) (now (skip .entry)) «base_q») (now (p .entry)) ⌝ }
 {
     units::open_p(
         p,

@@ -1,5 +1,5 @@
-ghost use Rattle.definition.specs.Units.{luma};
-ghost use Rattle.units.specs.Openings.{Begun, numbersY};
+ghost use Rattle.definition.specs.declared.Operation.the-variants.{Luma};
+ghost use Rattle.units.specs.Openings.{Begun, givenY};
 ghost use Rattle.units.specs.Lent.{lumaLent};
 use units::Opened;
 
@@ -19,7 +19,7 @@ pub extern "C" fn gihvendu_open_y(
     edges: usize,
     skip: &[u16],
 ) -> Opened
-    ensures { λ r. ⌜ Begun luma r (numbersY w h edges stride «p_off» «lpf_off» «lpf_bottom_off») (lumaLent (now (left .entry)) (now (lpf .entry)) (now («lpf_bottom» .entry)) (now (filter .entry)) (now (skip .entry))) (now (p .entry)) ⌝ }
+    ensures { λ r. ⌜ Begun Luma r (givenY w h edges stride «p_off» «lpf_off» «lpf_bottom_off») (lumaLent (now (left .entry)) (now (lpf .entry)) (now («lpf_bottom» .entry)) (now (filter .entry)) (now (skip .entry))) (now (p .entry)) ⌝ }
 {
     units::open_y(
         p,

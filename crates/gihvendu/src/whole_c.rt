@@ -1,7 +1,7 @@
-ghost use Rattle.definition.specs.Units.{luma, chroma};
+ghost use Rattle.definition.specs.declared.Operation.the-variants.{Luma, Chroma};
 ghost use Rattle.whole.specs.Whole.{Whole};
 ghost use Rattle.units.specs.Lent.{chromaLent};
-ghost use Rattle.units.specs.Openings.{numbersC};
+ghost use Rattle.units.specs.Openings.{givenC};
 use whole::Restored;
 
 #[no_mangle]
@@ -30,7 +30,7 @@ pub extern "C" fn gihvendu_ns_wiener_single_uv_8bpc<'a>(
     edges: usize,
     skip: &[u16],
 ) -> Restored
-    ensures { λ r. ⌜ Whole chroma r (numbersC w h edges stride lstride «p_off» «lpf_off» «lpf_bottom_off» «luma_off» «luma_top_off» «luma_bottom_off» «ss_hor» «ss_ver» «ds_flt») (chromaLent (now (left .entry)) (now (lpf .entry)) (now («lpf_bottom» .entry)) (now (filter .entry)) (now (luma .entry)) (now («luma_top» .entry)) (now («luma_bottom» .entry)) (now (skip .entry))) (now (p .entry)) (now (p .exit)) ⌝ }
+    ensures { λ r. ⌜ Whole Chroma r (givenC w h edges stride lstride «p_off» «lpf_off» «lpf_bottom_off» «luma_off» «luma_top_off» «luma_bottom_off» «ss_hor» «ss_ver» «ds_flt») (chromaLent (now (left .entry)) (now (lpf .entry)) (now («lpf_bottom» .entry)) (now (filter .entry)) (now (luma .entry)) (now («luma_top» .entry)) (now («luma_bottom» .entry)) (now (skip .entry))) (now (p .entry)) (now (p .exit)) ⌝ }
 {
     whole::ns_wiener_single_uv_8bpc(
         p,

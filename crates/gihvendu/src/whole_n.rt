@@ -1,7 +1,7 @@
-ghost use Rattle.definition.specs.Units.{user};
+ghost use Rattle.definition.specs.declared.Operation.the-variants.{User};
 ghost use Rattle.whole.specs.Whole.{Whole};
 ghost use Rattle.units.specs.Lent.{classedLent};
-ghost use Rattle.units.specs.Openings.{numbersY};
+ghost use Rattle.units.specs.Openings.{givenY};
 use whole::Restored;
 
 #[no_mangle]
@@ -24,7 +24,7 @@ pub extern "C" fn gihvendu_ns_wiener_multi_8bpc(
     edges: usize,
     skip: &[u16],
 ) -> Restored
-    ensures { λ r. ⌜ Whole user r (numbersY w h edges stride «p_off» «lpf_off» «lpf_bottom_off») (classedLent (now (left .entry)) (now (lpf .entry)) (now («lpf_bottom» .entry)) (now (filters .entry)) (now (map .entry)) (now (subclass .entry)) (now (noskip .entry)) (now (skip .entry)) «base_q») (now (p .entry)) (now (p .exit)) ⌝ }
+    ensures { λ r. ⌜ Whole User r (givenY w h edges stride «p_off» «lpf_off» «lpf_bottom_off») (classedLent (now (left .entry)) (now (lpf .entry)) (now («lpf_bottom» .entry)) (now (filters .entry)) (now (map .entry)) (now (subclass .entry)) (now (noskip .entry)) (now (skip .entry)) «base_q») (now (p .entry)) (now (p .exit)) ⌝ }
 {
     whole::ns_wiener_multi_8bpc(
         p,

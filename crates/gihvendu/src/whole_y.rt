@@ -1,7 +1,7 @@
-ghost use Rattle.definition.specs.Units.{luma};
+ghost use Rattle.definition.specs.declared.Operation.the-variants.{Luma};
 ghost use Rattle.whole.specs.Whole.{Whole};
 ghost use Rattle.units.specs.Lent.{lumaLent};
-ghost use Rattle.units.specs.Openings.{numbersY};
+ghost use Rattle.units.specs.Openings.{givenY};
 use whole::Restored;
 
 #[no_mangle]
@@ -20,7 +20,7 @@ pub extern "C" fn gihvendu_ns_wiener_single_y_8bpc(
     edges: usize,
     skip: &[u16],
 ) -> Restored
-    ensures { λ r. ⌜ Whole luma r (numbersY w h edges stride «p_off» «lpf_off» «lpf_bottom_off») (lumaLent (now (left .entry)) (now (lpf .entry)) (now («lpf_bottom» .entry)) (now (filter .entry)) (now (skip .entry))) (now (p .entry)) (now (p .exit)) ⌝ }
+    ensures { λ r. ⌜ Whole Luma r (givenY w h edges stride «p_off» «lpf_off» «lpf_bottom_off») (lumaLent (now (left .entry)) (now (lpf .entry)) (now («lpf_bottom» .entry)) (now (filter .entry)) (now (skip .entry))) (now (p .entry)) (now (p .exit)) ⌝ }
 {
     whole::ns_wiener_single_y_8bpc(
         p,

@@ -1,4 +1,4 @@
--- A unit that is restored in many advances, whatever its kind, and the one theorem of any history of it.
+-- A unit that is restored in many advances, whatever its operation, and the one theorem of any history of it.
 --
 use mathlib.Core.Path.{_≡_, refl, _∙_}
 use mathlib.Core.Bool.{Bool, true, false, cond, _&&_}
@@ -114,7 +114,7 @@ module _ {S C A : Type 0} (u : Opened S C A) where
   Off k k′ i = (y x : ℕ) → k ≤ y → y < k′ → x < u .w → i ≢ u .at y x
 
   -- the plane q is the plane p but for rows k up to k′, which hold the definition's samples
-  pub record Rows (a : A) (k k′ : ℕ) (p q : List ℕ) : Type 0 where
+  pub record RowsFinal (a : A) (k k′ : ℕ) (p q : List ℕ) : Type 0 where
     pub size : length q ≡ length p
     pub here : (y x : ℕ) → k ≤ y → y < k′ → x < u .w → getD q (u .at y x) 0 ≡ u .final a y x
     pub other : (i : ℕ) → Off k k′ i → getD q i 0 ≡ getD p i 0
@@ -129,14 +129,14 @@ module _ {S C A : Type 0} (u : Opened S C A) where
     pub status : o .status ≡ 0
     pub pieces : o .pieces ≡ u .pieces a k k′
     pub state : Reached k′ (o .state)
-    pub plane : Rows a k k′ p (o .plane)
+    pub plane : RowsFinal a k k′ p (o .plane)
 
   pub record Refused (s : S) (p : List ℕ) (o : Out S) : Type 0 where
     pub pieces : o .pieces ≡ 0
     pub state : o .state ≡ s
     pub plane : o .plane ≡ p
 
-  -- what a kind of unit has to show
+  -- what an operation has to show
   pub record Lawful : Type 1 where
     pub Reached : ℕ → S → Type 0
     pub done : (k : ℕ) (s : S) → Reached k s → u .rows s ≡ k

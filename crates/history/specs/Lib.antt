@@ -3,11 +3,11 @@
 --   Steps       an advance is so many steps of one row
 --   Ring        padded rows in a ring, reached by row indices
 --   Memory      what a unit remembers between rows, and that with any memory and any filter one row's step is lawful
---   Operation   an advance over any state; what a kind has to show of itself
---   Theorem     one theorem for every kind
+--   Advance     an advance over any state; what an operation has to show of itself
+--   Theorem     one theorem for every operation
 pub mod History
 pub mod Steps
 pub mod Ring
 pub mod Memory
-pub mod Operation
+pub mod Advance
 pub mod Theorem

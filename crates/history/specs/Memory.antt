@@ -2,7 +2,7 @@
 --     Memory       a memory: what is taken in for row k, what the filter then sees, and what is kept for the row after
 --     ring         a ring of padded rows
 --     both         two memories side by side: chroma's two rings
---     one          with any memory and any filter of one sample, the step of one row is lawful: what `Steps` asks of a kind
+--     one          with any memory and any filter of one sample, the step of one row is lawful: what `Steps` asks of an operation
 --
 use mathlib.Core.Path.{_≡_, refl, sym, _∙_, ap, subst}
 use mathlib.Core.Bool.{Bool, true}
@@ -76,10 +76,10 @@ pub record Reached {M U S : Type 0} {h : ℕ} {start : ℕ → ℕ} {p₀ : List
   pub exact : s ≡ there k (keptAt mem first k)
   pub holds : mem .At k (keptAt mem first k)
 
--- A KIND OF UNIT: a memory, a filter of one sample, and the state `there k m` in which k rows are done and m is kept.
+-- AN OPERATION ON ROWS: a memory, a filter of one sample, and the state `there k m` in which k rows are done and m is kept.
 module _ {S C A M U : Type 0} (u : Opened S C A) (a : A) (off stride : ℕ) (mem : Memory M U (u .h) (λ k. off + k * stride) (u .plane))
     (cell : ℕ → U → ℕ → ℕ → ℕ) (there : ℕ → M → S) (first : M) (step : World S → World S) where
-  pub record Kind : Type 0 where
+  pub record RowWise : Type 0 where
     pub at : (y x : ℕ) → u .at y x ≡ off + y * stride + x
     pub apart : u .w ≤ stride
     pub room : (k : ℕ) → k < u .h → off + k * stride + u .w ≤ length (u .plane)
@@ -91,7 +91,7 @@ module _ {S C A M U : Type 0} (u : Opened S C A) (a : A) (off stride : ℕ) (mem
           plane = sets p (off + k * stride) (tab (u .w) (λ x. cell k (mem .seen k (mem .take k p m)) (getD p (off + k * stride + x) 0) x));
         }
 
-  module _ (d : Kind) where
+  module _ (d : RowWise) where
     fresh : (k : ℕ) (p : List ℕ) → Like u k p → From (off + k * stride) (u .plane) p
     fresh k p l i h =
         l .other i

@@ -10,7 +10,7 @@ use lib.Seq.{sets, length-sets}
 use Rattle.history.specs.Ring.{rows-apart}
 use Rattle.definition.specs.Rows.{tab}
 use Rattle.laws.proofs.Lists.{length-tab, getD-tab, sets-in, sets-before, sets-behind}
-use Rattle.history.specs.History.{Opened, World, Rows, Like}
+use Rattle.history.specs.History.{Opened, World, RowsFinal, Like}
 
 abbrev pub steps {ℓ} : {A : Type ℓ} → (A → A) → ℕ → A → A
 steps f zero x = x
@@ -33,7 +33,7 @@ lie-apart off stride w y x y′ x′ hw hx hx′ e =
 -- row k of a unit whose rows lie stride apart is written whole
 pub paint : {S C A : Type 0} (u : Opened S C A) (a : A) (off stride : ℕ) → ((y x : ℕ) → u .at y x ≡ off + y * stride + x) →
     (k : ℕ) (p : List ℕ) (f : ℕ → ℕ) → off + k * stride + u .w ≤ length p → ((x : ℕ) → x < u .w → f x ≡ u .final a k x) →
-    Rows u a k (k + 1) p (sets p (off + k * stride) (tab (u .w) f))
+    RowsFinal u a k (k + 1) p (sets p (off + k * stride) (tab (u .w) f))
 paint u a off stride at k p f room same =
     let vs : List ℕ = tab (u .w) f in
     let size : length vs ≡ u .w = length-tab (u .w) f in
@@ -58,14 +58,14 @@ paint u a off stride at k p f room same =
 module _ {S C A : Type 0} (u : Opened S C A) (a : A) (Reached : ℕ → S → Type 0) (step : World S → World S) where
   pub record Stepped (k k′ : ℕ) (p : List ℕ) (x : World S) : Type 0 where
     pub state : Reached k′ (x .state)
-    pub plane : Rows u a k k′ p (x .plane)
+    pub plane : RowsFinal u a k k′ p (x .plane)
 
   -- the law of one step
   abbrev pub One : Type 0
   One = (k : ℕ) (x : World S) → k < u .h → Reached k (x .state) → Like u k (x .plane) → Stepped k (k + 1) (x .plane) (step x)
 
   -- of the plane with more rows done
-  pub like-more : (k k′ : ℕ) (p q : List ℕ) → k ≤ k′ → Like u k p → Rows u a k k′ p q → Like u k′ q
+  pub like-more : (k k′ : ℕ) (p q : List ℕ) → k ≤ k′ → Like u k p → RowsFinal u a k k′ p q → Like u k′ q
   like-more k k′ p q le l r =
       record {
         size = r .size ∙ l .size;
@@ -74,7 +74,7 @@ module _ {S C A : Type 0} (u : Opened S C A) (a : A) (Reached : ℕ → S → Ty
       }
 
   module _ (apart : (y x y′ x′ : ℕ) → x < u .w → x′ < u .w → u .at y x ≡ u .at y′ x′ → (y ≡ y′) × (x ≡ x′)) (one : One) where
-    rows-join : (k k′ : ℕ) (p q r : List ℕ) → k ≤ k′ → Rows u a k k′ p q → Rows u a k′ (k′ + 1) q r → Rows u a k (k′ + 1) p r
+    rows-join : (k k′ : ℕ) (p q r : List ℕ) → k ≤ k′ → RowsFinal u a k k′ p q → RowsFinal u a k′ (k′ + 1) q r → RowsFinal u a k (k′ + 1) p r
     rows-join k k′ p q r le d b =
         record {
           size = b .size ∙ d .size;

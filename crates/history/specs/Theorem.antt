@@ -1,4 +1,4 @@
--- ONE THEOREM FOR EVERY KIND OF UNIT. A kind gives an operation over any state, a memory, and a filter of one sample.
+-- ONE THEOREM FOR EVERY OPERATION. It gives an advance over any state, a memory, and a filter of one sample.
 use mathlib.Core.Path.{_≡_, refl, sym, _∙_}
 use mathlib.Core.Bool.{true}
 use mathlib.Core.List.{List}
@@ -8,12 +8,12 @@ use lib.Dec.{eqb}
 use lib.Seq.{sets}
 use Rattle.definition.specs.Rows.{tab}
 use Rattle.history.specs.History.{Like, History, Valid, After}
-use Rattle.history.specs.Memory.{Memory, Kind, Reached, keptAt, one}
-use Rattle.history.specs.Operation.{Operation, Frame, unitOf, Fits, any-history}
+use Rattle.history.specs.Memory.{Memory, RowWise, Reached, keptAt, one}
+use Rattle.history.specs.Advance.{Advancing, Frame, unitOf, Fits, any-history}
 
-module _ {S C A M U : Type 0} (o : Operation S C) (f : Frame S C A) (mem : Memory M U (f .h) (λ k. f .off + k * f .stride) (f .plane))
+module _ {S C A M U : Type 0} (o : Advancing S C) (f : Frame S C A) (mem : Memory M U (f .h) (λ k. f .off + k * f .stride) (f .plane))
     (cell : A → ℕ → U → ℕ → ℕ → ℕ) (there : ℕ → M → S) where
-  pub record Given : Type 0 where
+  pub record Shown : Type 0 where
     -- the rectangle lies in the plane, and its rows apart
     pub apart : f .w ≤ f .stride
     pub room : (k : ℕ) → k < f .h → f .off + k * f .stride + f .w ≤ length (f .plane)
@@ -37,9 +37,9 @@ module _ {S C A M U : Type 0} (o : Operation S C) (f : Frame S C A) (mem : Memor
           plane = sets p (f .off + k * f .stride) (tab (f .w) (λ x. cell a k (mem .seen k (mem .take k p m)) (getD p (f .off + k * f .stride + x) 0) x));
         }
 
-  module _ (d : Given) where
-    kind : (a : A) (n : ℕ) → Kind (unitOf o f) a (f .off) (f .stride) mem (cell a) there (d .first) (o .step (f .own a n))
-    kind a n = record { at = λ y x. refl; apart = d .apart; room = d .room; final = d .final a; steps = d .steps a n }
+  module _ (d : Shown) where
+    row-wise : (a : A) (n : ℕ) → RowWise (unitOf o f) a (f .off) (f .stride) mem (cell a) there (d .first) (o .step (f .own a n))
+    row-wise a n = record { at = λ y x. refl; apart = d .apart; room = d .room; final = d .final a; steps = d .steps a n }
 
     fits : Fits o f (Reached mem there (d .first))
     fits =
@@ -54,7 +54,7 @@ module _ {S C A M U : Type 0} (o : Operation S C) (f : Frame S C A) (mem : Memor
           count = d .count;
           admits = λ a n k s p ok r hk l. rw (r .exact) (d .admits a n k (keptAt mem (d .first) k) p ok (r .holds) hk l);
           pieces = λ a n k j s r. rw (r .exact) (d .pieces a n k j (keptAt mem (d .first) k));
-          one = λ a n. one (unitOf o f) a (f .off) (f .stride) mem (cell a) there (d .first) (o .step (f .own a n)) (kind a n);
+          one = λ a n. one (unitOf o f) a (f .off) (f .stride) mem (cell a) there (d .first) (o .step (f .own a n)) (row-wise a n);
         }
 
     -- DEMAND 3

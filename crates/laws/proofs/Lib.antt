@@ -7,3 +7,4 @@ pub mod Tables
 pub mod Passes
 pub mod Tests
 pub mod Checks
+pub mod Inside

@@ -12,9 +12,12 @@ use lib.IntN.{ℤ, pos, negsuc, negℤ, natAbs, _+ℤ_, _-ℤ_, _*ℤ_, *ℤ-zer
 use lib.ListN.{length, getD, replicate, length-replicate}
 use lib.Seq.{sets, length-sets}
 use borrow.Author.Tests.{lt-ltb, le-ltb, ltb-false}
+use Rattle.definition.specs.Limits.{widthLimit}
+use Rattle.definition.specs.declared.Operation.the-variants.{Chroma}
+use Rattle.definition.specs.declared.Given.{Given}
 use Rattle.definition.specs.Rows.{tab, rowBytes, lumaRowBytes, rowOrigin}
 use Rattle.definition.specs.Padding.{hasTop, hasBottom, topIntegrated, bottomIntegrated, evenOnly, lumaPadded}
-use Rattle.definition.specs.Units.{chroma, Given, Lent, lumaAt, lumaAround, lumaPart, lumaOwn, upperSaved, lowerSaved, step}
+use Rattle.definition.specs.Units.{Lent, lumaAt, lumaAround, lumaPart, lumaOwn, upperSaved, lowerSaved, step}
 use Rattle.definition.specs.Refusals.{badSampling}
 use Rattle.laws.proofs.Ints.{sub-pos, sub-neg, sub-cases, abs-mul, nonneg-add}
 use Rattle.laws.proofs.Lists.{length-tab, tab-at, getD-tab, sets-in}
@@ -28,7 +31,7 @@ unfoldable pub lumaPadRow : Given → Lent → ℕ → List ℕ
 lumaPadRow g l R =
     sets (replicate lumaRowBytes 0) (rowOrigin - 4)
     (tab (4 + g .w * step g l + 4)
-    (λ j. cond (evenOnly (g .ssVer) (g .kind) && eqb (j % 2) 1) 0 (lumaAt g l (pos R -ℤ pos 2) (pos j -ℤ pos 4))))
+    (λ j. cond (evenOnly (g .«ss_ver») (g .kind) && eqb (j % 2) 1) 0 (lumaAt g l (pos R -ℤ pos 2) (pos j -ℤ pos 4))))
 
 pub luma-size : (g : Given) (l : Lent) (R : ℕ) → length (lumaPadRow g l R) ≡ lumaRowBytes
 unfolding lumaPadRow
@@ -43,8 +46,8 @@ luma-alike g l R S u d = λ i.
     sets (replicate lumaRowBytes 0) (rowOrigin - 4)
     (tab (4 + g .w * step g l + 4)
     (λ j.
-    cond (evenOnly (g .ssVer) (g .kind) && eqb (j % 2) 1) 0
-    (lumaPadded (g .edges) (g .ssHor) (g .ssVer) (g .kind) (g .w * step g l) (λ c. u c i) (λ c. d c i) (pos j -ℤ pos 4))))
+    cond (evenOnly (g .«ss_ver») (g .kind) && eqb (j % 2) 1) 0
+    (lumaPadded (g .edges) (g .«ss_hor») (g .«ss_ver») (g .kind) (g .w * step g l) (λ c. u c i) (λ c. d c i) (pos j -ℤ pos 4))))
 
 -- below the unit, without rows to pad from, each row is the one before it
 part-below : (g : Given) (l : Lent) (more : ℕ) (saved : ℕ → ℕ) (r : ℕ) (int bottom : Bool) →
@@ -62,14 +65,14 @@ part-below g l more saved r false false ei eb h m k c =
 
 -- above it each row is the first
 part-above : (g : Given) (l : Lent) (more : ℕ) (saved : ℕ → ℕ) (n : ℕ) (int top : Bool) →
-    topIntegrated (g .edges) ≡ int → hasTop (g .edges) ≡ top → 1 ≤ g .h → cond (int || top) 2 0 ≤ n → n < 2 →
-    (c : ℤ) → lumaPart g l more saved (pos (2 - cond (int || top) 2 0) -ℤ pos 2) c ≡ lumaPart g l more saved (negsuc n) c
+    topIntegrated (g .edges) ≡ int → hasTop (g .edges) ≡ top → 1 ≤ g .h → cond int 2 (cond top 2 0) ≤ n → n < 2 →
+    (c : ℤ) → lumaPart g l more saved (pos (2 - cond int 2 (cond top 2 0)) -ℤ pos 2) c ≡ lumaPart g l more saved (negsuc n) c
 part-above g l more saved n true top ei eb h k m c = absurd (omega arith)
 part-above g l more saved n false true ei eb h k m c = absurd (omega arith)
 part-above g l more saved n false false ei eb h k m c = rw (ei, eb, lt-ltb 0 (g .h) h)
 
 module _ (g : Given) (l : Lent) (tall : 1 ≤ g .h) where
-  pub luma-again : (k : ℕ) → k < g .h → own chroma g (k + 4) ≡ false → lumaPadRow g l (k + 4) ≡ lumaPadRow g l (k + 3)
+  pub luma-again : (k : ℕ) → k < g .h → own Chroma g (k + 4) ≡ false → lumaPadRow g l (k + 4) ≡ lumaPadRow g l (k + 3)
   luma-again k h o =
       let n : g .h + 2 + (cond (bottomIntegrated (g .edges)) 2 0 + cond (bottomIntegrated (g .edges)) 0 (cond (hasBottom (g .edges)) 2 0)) ≤ k + 4 = ltb-false _ _ o in
       let d : pos (k + 4) -ℤ pos 2 ≡ pos (k + 1 + 1) = sub-pos (k + 4) 2 (omega arith) ∙ ap pos (omega arith) in
@@ -79,16 +82,16 @@ module _ (g : Given) (l : Lent) (tall : 1 ≤ g .h) where
       (λ c. rw (d, f) (part-below g l 1 (lowerSaved g l) (k + 1) (bottomIntegrated (g .edges)) (hasBottom (g .edges)) refl refl tall (omega arith) (omega arith) c))
 
   -- a row above that is not padded anew is the first that is
-  pub luma-first : (j : ℕ) → j < firstRow chroma g → lumaPadRow g l (firstRow chroma g) ≡ lumaPadRow g l j
+  pub luma-first : (j : ℕ) → j < firstRow Chroma g → lumaPadRow g l (firstRow Chroma g) ≡ lumaPadRow g l j
   luma-first j h =
       let d : pos j -ℤ pos 2 ≡ negsuc (2 - suc j) = sub-neg j 2 (omega arith) in
-      luma-alike g l (firstRow chroma g) j
+      luma-alike g l (firstRow Chroma g) j
       (λ c. rw d (part-above g l 0 (upperSaved g l) (2 - suc j) (topIntegrated (g .edges)) (hasTop (g .edges)) refl refl tall (omega arith) (omega arith) c))
       (λ c. rw d (part-above g l 1 (lowerSaved g l) (2 - suc j) (topIntegrated (g .edges)) (hasTop (g .edges)) refl refl tall (omega arith) (omega arith) c))
 
   -- THE RULE OF THE RING: that of the unit's own rows, but for the rows themselves
-  pub luma-rule : (p : List ℕ) (top : ℕ) (slot : ℕ → ℕ) → Rule rowBytes 4 top (g .h) slot (src chroma g) (own chroma g) (padRow chroma g l p) →
-      Rule lumaRowBytes 4 top (g .h) slot (src chroma g) (own chroma g) (lumaPadRow g l)
+  pub luma-rule : (p : List ℕ) (top : ℕ) (slot : ℕ → ℕ) → Rule rowBytes 4 top (g .h) slot (src Chroma g) (own Chroma g) (padRow Chroma g l p) →
+      Rule lumaRowBytes 4 top (g .h) slot (src Chroma g) (own Chroma g) (lumaPadRow g l)
   luma-rule p top slot r =
       record {
         some = r .some;
@@ -103,12 +106,12 @@ module _ (g : Given) (l : Lent) (tall : 1 ≤ g .h) where
       }
 
 -- A BYTE of a luma row is the padded sample that stands there, where its column is filled
-module _ (g : Given) (l : Lent) (wide : g .w * step g l ≤ 128) where
-  luma-byte : (R j : ℕ) → j < 4 + g .w * step g l + 4 → (evenOnly (g .ssVer) (g .kind) && eqb (j % 2) 1) ≡ false →
+module _ (g : Given) (l : Lent) (wide : g .w * step g l ≤ 2 * widthLimit) where
+  luma-byte : (R j : ℕ) → j < 4 + g .w * step g l + 4 → (evenOnly (g .«ss_ver») (g .kind) && eqb (j % 2) 1) ≡ false →
       getD (lumaPadRow g l R) (rowOrigin - 4 + j) 0 ≡ lumaAt g l (pos R -ℤ pos 2) (pos j -ℤ pos 4)
   unfolding lumaPadRow
   luma-byte R j h e =
-      let f : ℕ → ℕ = λ i. cond (evenOnly (g .ssVer) (g .kind) && eqb (i % 2) 1) 0 (lumaAt g l (pos R -ℤ pos 2) (pos i -ℤ pos 4)) in
+      let f : ℕ → ℕ = λ i. cond (evenOnly (g .«ss_ver») (g .kind) && eqb (i % 2) 1) 0 (lumaAt g l (pos R -ℤ pos 2) (pos i -ℤ pos 4)) in
       let n : ℕ = 4 + g .w * step g l + 4 in
       sets-in (tab n f) (replicate lumaRowBytes 0) (rowOrigin - 4) j (rw (length-tab n f) h) (rw (length-replicate {A = ℕ} lumaRowBytes 0) (omega arith)) ∙ (getD-tab n f j h ∙ rw e)
 
@@ -141,14 +144,14 @@ step-some (suc zero) a = omega arith
 step-some (suc (suc h)) a = absurd (let k : suc (suc h) ≤ 1 = ltb-false 1 (suc (suc h)) a in omega arith)
 
 -- THE DEFINITION'S VIEW of the luma around sample (y, x), at the columns that the filter reads
-module _ (g : Given) (l : Lent) (wide : g .w ≤ 64) (fair : badSampling (g .ssHor) (g .ssVer) (g .kind) ≡ false) where
-  pair-low : (ltb 1 (g .ssHor) ≡ false) × (ltb (g .ssHor) (g .ssVer) ≡ false)
-  pair-low = not-both (ltb 1 (g .ssHor)) (ltb (g .ssHor) (g .ssVer)) (not-both (ltb 1 (g .ssHor) || ltb (g .ssHor) (g .ssVer)) (ltb 2 (g .kind)) fair .0)
+module _ (g : Given) (l : Lent) (wide : g .w ≤ widthLimit) (fair : badSampling (g .«ss_hor») (g .«ss_ver») (g .kind) ≡ false) where
+  pair-low : (ltb 1 (g .«ss_hor») ≡ false) × (ltb (g .«ss_hor») (g .«ss_ver») ≡ false)
+  pair-low = not-both (ltb 1 (g .«ss_hor»)) (ltb (g .«ss_hor») (g .«ss_ver»)) (not-both (ltb 1 (g .«ss_hor») || ltb (g .«ss_hor») (g .«ss_ver»)) (ltb 2 (g .kind)) fair .0)
 
   pub step-two : step g l ≤ 2
-  step-two = step-low (g .ssHor) (pair-low .0)
+  step-two = step-low (g .«ss_hor») (pair-low .0)
 
-  luma-wide : g .w * step g l ≤ 128
+  luma-wide : g .w * step g l ≤ 2 * widthLimit
   luma-wide = omega (arith, mul-le-mul wide step-two)
 
   pub luma-view : (y x : ℕ) → x < g .w → (dy dx : ℤ) → natAbs dy ≤ 2 → natAbs dx ≤ 2 →
@@ -161,11 +164,11 @@ module _ (g : Given) (l : Lent) (wide : g .w ≤ 64) (fair : badSampling (g .ssH
       let lj : j ≤ 4 = place-high 2 dy 2 ny in
       let li : natAbs (pos 4 +ℤ d) ≤ 8 = place-high 4 d 4 nd in
       let hi : x * step g l + step g l ≤ g .w * step g l = rows-apart (step g l) x (g .w) hx in
-      let some : 1 ≤ step g l = step-some (g .ssHor) (pair-low .0) in
+      let some : 1 ≤ step g l = step-some (g .«ss_hor») (pair-low .0) in
       let c : natAbs (pos (rowOrigin + x * step g l) +ℤ d) ≡ rowOrigin - 4 + i = place-split rowOrigin (x * step g l) 4 d (nonneg-add 4 d nd) (omega arith) in
       ap (λ (r : List ℕ). getD r (natAbs (pos (rowOrigin + x * step g l) +ℤ d)) 0) (tab-at [] 5 (λ k. lumaPadRow g l (y + k)) j (omega arith)) ∙
       (ap (λ (m : ℕ). getD (lumaPadRow g l (y + j)) m 0) c ∙
-      (luma-byte g l luma-wide (y + j) i (omega arith) (even-place (g .ssHor) (g .ssVer) (g .kind) (pair-low .0) (pair-low .1) x dx) ∙
+      (luma-byte g l luma-wide (y + j) i (omega arith) (even-place (g .«ss_hor») (g .«ss_ver») (g .kind) (pair-low .0) (pair-low .1) x dx) ∙
       (λ t. lumaAt g l (back y 2 dy (nonneg-add 2 dy ny) t) (back (x * step g l) 4 d (nonneg-add 4 d nd) t))))
 
   pub luma-centre : (y x : ℕ) → x < g .w → viewAround 2 (tab 5 (λ j. lumaPadRow g l (y + j))) (rowOrigin + x * step g l) (pos 0) (pos 0) ≡ lumaAround g l y x (pos 0) (pos 0)

@@ -10,8 +10,10 @@ use lib.Dec.{leb}
 use lib.ListN.{length, getD, length-append, List·getD-append}
 use lib.Seq.{sets, length-sets}
 use borrow.Author.Tests.{le-leb}
+use Rattle.definition.specs.declared.Operation.{Operation}
+use Rattle.definition.specs.declared.Given.{Given}
 use Rattle.definition.specs.Rows.{tab, rowBytes}
-use Rattle.definition.specs.Units.{Operation, border, Given, Lent}
+use Rattle.definition.specs.Units.{border, Lent}
 use Rattle.laws.proofs.Lists.{length-tab, getD-tab, tab-low}
 use Rattle.history.specs.Ring.{Ring, RingAt, rowOf, row-same, row-other, append-low}
 use Rattle.model.specs.Rows.{padRow, firstRow, lastRow, src, own, pad-size, first-low, border-some, first-again}

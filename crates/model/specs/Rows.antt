@@ -10,6 +10,9 @@ use native.Mathlib.Decide.{decLt}
 use native.Mathlib.Omega.{arith}
 use lib.Dec.{ltb}
 use mathlib.Core.Logic.{_≢_}
+use Rattle.definition.specs.declared.Operation.{Operation}
+use Rattle.definition.specs.declared.Operation.the-variants.{Luma, User, Pretrained, Chroma}
+use Rattle.definition.specs.declared.Given.{Given}
 use Rattle.history.specs.Ring.{Rule, wrap}
 use lib.IntN.{ℤ, pos, negsuc, _-ℤ_}
 use lib.ListN.{length, getD, replicate, length-replicate}
@@ -17,7 +20,7 @@ use lib.Seq.{sets, length-sets}
 use borrow.Author.Tests.{lt-ltb, le-ltb, ltb-true, ltb-false}
 use Rattle.definition.specs.Rows.{tab, rowBytes, rowOrigin}
 use Rattle.definition.specs.Padding.{hasLeft, hasRight, hasTop, hasBottom, topIntegrated, bottomIntegrated, padded}
-use Rattle.definition.specs.Units.{Operation, luma, user, pretrained, chroma, border, Given, Lent, unitRow, sampleAt, ownRow, planeRow, topRow, bottomRow, savedAbove}
+use Rattle.definition.specs.Units.{border, Lent, unitRow, sampleAt, ownRow, planeRow, topRow, bottomRow, savedAbove}
 use Rattle.definition.specs.Refusals.{topRows, bottomRows, planeRows}
 use Rattle.laws.proofs.Ints.{never, sub-pos, sub-neg, before-pos}
 use Rattle.laws.proofs.Lists.{tab-cong}
@@ -45,7 +48,7 @@ own op g R = ltb R (g .h + border op + belowRows op (g .edges))
 abbrev pub src : Operation → Given → ℕ → ℕ
 src op g R = min (max R (firstRow op g)) (lastRow op g)
 
-pub pad-size : (op : Operation) (g : Given) (l : Lent) (p : List ℕ) (R : ℕ) → length (padRow op g l p R) ≡ 76
+pub pad-size : (op : Operation) (g : Given) (l : Lent) (p : List ℕ) (R : ℕ) → length (padRow op g l p R) ≡ rowBytes
 unfolding padRow
 pad-size op g l p R = rw length-sets (length-replicate {A = ℕ} rowBytes 0)
 
@@ -92,24 +95,24 @@ same-below op g l p r false false ei eb n h k c =
 
 -- THE ROWS ABOVE. A row before the first that is padded anew is that one.
 above-luma : (g : Given) (l : Lent) (p : List ℕ) (n : ℕ) (int top : Bool) →
-    topIntegrated (g .edges) ≡ int → hasTop (g .edges) ≡ top → 1 ≤ g .h → topRows luma (g .edges) ≤ n → n < 4 →
-    (c : ℤ) → unitRow luma g l p (pos (firstRow luma g) -ℤ pos 4) c ≡ unitRow luma g l p (negsuc n) c
+    topIntegrated (g .edges) ≡ int → hasTop (g .edges) ≡ top → 1 ≤ g .h → topRows Luma (g .edges) ≤ n → n < 4 →
+    (c : ℤ) → unitRow Luma g l p (pos (firstRow Luma g) -ℤ pos 4) c ≡ unitRow Luma g l p (negsuc n) c
 above-luma g l p n true top ei eb h k m c = let q : 4 ≤ n = rw ei at k in absurd (omega arith)
 above-luma g l p n false true ei eb h k m c =
     let q : 2 ≤ n = rw (ei, eb) at k in
-    let d : savedAbove luma (g .edges) 1 ≡ savedAbove luma (g .edges) n = rw ei (omega arith) in
-    rw (ei, eb) (rw (ei, eb) (ap (λ (r : ℕ). topRow luma g l p r c) d))
+    let d : savedAbove Luma (g .edges) 1 ≡ savedAbove Luma (g .edges) n = rw ei (omega arith) in
+    rw (ei, eb) (rw (ei, eb) (ap (λ (r : ℕ). topRow Luma g l p r c) d))
 above-luma g l p n false false ei eb h k m c = rw (ei, eb, lt-ltb 0 (g .h) h)
 
 same-above : (op : Operation) (g : Given) (l : Lent) (p : List ℕ) (n : ℕ) (int top : Bool) →
     topIntegrated (g .edges) ≡ int → hasTop (g .edges) ≡ top → 1 ≤ g .h → topRows op (g .edges) ≤ n → n < border op →
     (c : ℤ) → unitRow op g l p (pos (firstRow op g) -ℤ pos (border op)) c ≡ unitRow op g l p (negsuc n) c
-same-above luma g l p n int top ei eb h k m c = above-luma g l p n int top ei eb h k m c
-same-above user g l p n int top ei eb h k m c = above-luma g l p n int top ei eb h k m c
-same-above pretrained g l p n int top ei eb h k m c = above-luma g l p n int top ei eb h k m c
-same-above chroma g l p n true top ei eb h k m c = let q : 2 ≤ n = rw ei at k in absurd (omega arith)
-same-above chroma g l p n false true ei eb h k m c = let q : 2 ≤ n = rw (ei, eb) at k in absurd (omega arith)
-same-above chroma g l p n false false ei eb h k m c = rw (ei, eb, lt-ltb 0 (g .h) h)
+same-above Luma g l p n int top ei eb h k m c = above-luma g l p n int top ei eb h k m c
+same-above User g l p n int top ei eb h k m c = above-luma g l p n int top ei eb h k m c
+same-above Pretrained g l p n int top ei eb h k m c = above-luma g l p n int top ei eb h k m c
+same-above Chroma g l p n true top ei eb h k m c = let q : 2 ≤ n = rw ei at k in absurd (omega arith)
+same-above Chroma g l p n false true ei eb h k m c = let q : 2 ≤ n = rw (ei, eb) at k in absurd (omega arith)
+same-above Chroma g l p n false false ei eb h k m c = rw (ei, eb, lt-ltb 0 (g .h) h)
 
 -- THE FRAME. A row from k on is padded from the plane at or past the start of row k: with left a row of the unit takes the left list, and before a row below the
 -- unit stand at most e samples, which is no more than a stride.
@@ -164,10 +167,10 @@ pub first-low : (op : Operation) (g : Given) → firstRow op g ≤ border op
 first-low op g = omega arith
 
 pub border-some : (op : Operation) → 1 ≤ border op
-border-some luma = omega arith
-border-some user = omega arith
-border-some pretrained = omega arith
-border-some chroma = omega arith
+border-some Luma = omega arith
+border-some User = omega arith
+border-some Pretrained = omega arith
+border-some Chroma = omega arith
 
 -- a row that is not padded anew is the one before it
 again-row : (op : Operation) (g : Given) (l : Lent) (p : List ℕ) (r : ℕ) (int bottom : Bool) →

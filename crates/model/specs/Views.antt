@@ -10,10 +10,13 @@ use lib.IntN.{ℤ, pos, negℤ, natAbs, _+ℤ_, _-ℤ_, _*ℤ_, +ℤ-assoc, +ℤ
 use lib.ListN.{getD, drop, replicate, length-replicate}
 use lib.Seq.{getD-take, getD-drop}
 use lib.Signed.{nonNeg, pos-natAbs}
+use Rattle.definition.specs.Limits.{widthLimit}
+use Rattle.definition.specs.declared.Operation.{Operation}
+use Rattle.definition.specs.declared.Given.{Given}
 use Rattle.definition.specs.Numbers.{sumZ}
 use Rattle.definition.specs.Rows.{tab, flatAround, rowBytes, rowOrigin}
 use Rattle.definition.specs.Sample.{rounded, dyOf, dxOf, centre, pairOf, nsTap, pcTap, lumaTap, nsConfigY, nsConfigUv, nsConfigUvFromY, pcConfig, lumaSample, pretrainedSample, chromaSample}
-use Rattle.definition.specs.Units.{Operation, border, Given, Lent, sampleAt, around}
+use Rattle.definition.specs.Units.{border, Lent, sampleAt, around}
 use Rattle.laws.proofs.Ints.{abs-neg, abs-add, nonneg-add}
 use Rattle.laws.proofs.Lists.{tab-at, getD-tab, length-tab, sets-in}
 use Rattle.laws.proofs.Tables.{all, near, near-at}
@@ -106,7 +109,7 @@ place-split a x e d h k =
     ap natAbs n ∙ omega arith
 
 -- a byte of a padded row is the padded sample that stands there
-module _ (op : Operation) (g : Given) (l : Lent) (p : List ℕ) (wide : g .w ≤ 64) (high : border op ≤ 4) where
+module _ (op : Operation) (g : Given) (l : Lent) (p : List ℕ) (wide : g .w ≤ widthLimit) (high : border op ≤ 4) where
   pad-byte : (R i : ℕ) → i < border op + g .w + border op →
       getD (padRow op g l p R) (rowOrigin - border op + i) 0 ≡ sampleAt op g l p (pos R -ℤ pos (border op)) (pos i -ℤ pos (border op))
   unfolding padRow

@@ -1,1 +1,1 @@
-// The step of one row over any state, for each kind of unit, and the theorem of its histories: in specs/, and there is no code.
+// The step of one row over any state, for each operation, and the theorem of its histories: in specs/, and there is no code.

@@ -15,14 +15,14 @@ use Rattle.laws.proofs.Ints.{never}
 use Rattle.padding.specs.Steps.{columns}
 
 -- j columns are filled, whole steps only
-pub record Whole (b : Bool) (j n : ℕ) : Type 0 where
+pub record WholeSteps (b : Bool) (j n : ℕ) : Type 0 where
   pub inside : j ≤ n
   pub even : b ≡ true → j % 2 ≡ 0
 
-pub whole-none : (b : Bool) (n : ℕ) → Whole b 0 n
+pub whole-none : (b : Bool) (n : ℕ) → WholeSteps b 0 n
 whole-none b n = record { inside = omega arith; even = λ e. refl }
 
-whole-step : (b : Bool) (j n : ℕ) → Whole b j n → j < n → (b ≡ true → n % 2 ≡ 0) → Whole b (j + cond b 2 1) n
+whole-step : (b : Bool) (j n : ℕ) → WholeSteps b j n → j < n → (b ≡ true → n % 2 ≡ 0) → WholeSteps b (j + cond b 2 1) n
 whole-step true j n w h e =
     let p = w .even refl in
     let q = e refl in
@@ -59,8 +59,8 @@ step-bound false = (omega arith, omega arith)
 pub step-size : (v k step : ℕ) → step ≡ cond (evenOnly v k) 2 1 → (1 ≤ step) × (step ≤ 2)
 step-size v k step is = rw is (step-bound (evenOnly v k))
 
-module _ (v k step j n : ℕ) (is : step ≡ cond (evenOnly v k) 2 1) (w : Whole (evenOnly v k) j n) where
-  pub whole-more : j < n → (evenOnly v k ≡ true → n % 2 ≡ 0) → Whole (evenOnly v k) (j + step) n
+module _ (v k step j n : ℕ) (is : step ≡ cond (evenOnly v k) 2 1) (w : WholeSteps (evenOnly v k) j n) where
+  pub whole-more : j < n → (evenOnly v k ≡ true → n % 2 ≡ 0) → WholeSteps (evenOnly v k) (j + step) n
   whole-more h e = rw is (whole-step (evenOnly v k) j n w h e)
 
   pub columns-more : (dst : List ℕ) (at : ℕ) (f : ℕ → ℕ) → set (columns dst at j v k f) (at + j) (f j) ≡ columns dst at (j + step) v k f

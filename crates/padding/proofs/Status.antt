@@ -15,7 +15,7 @@ use Rattle.laws.proofs.Passes.{both, inside, first-clear, not-both}
 use Rattle.laws.proofs.Lists.{tab-cong}
 use Rattle.laws.proofs.Ints.{never}
 use Rattle.padding.specs.Padded.{targetInside, backupStatus, lpfStatus, lumaStatus, paddedRow, lowerAt}
-use Rattle.padding.specs.Steps.{Inside, InsideLuma}
+use Rattle.padding.specs.Steps.{RowFits, InsideLuma}
 
 implied : (b c : Bool) → (not b || c) ≡ true → b ≡ true → c ≡ true
 implied true c e h = e
@@ -25,7 +25,7 @@ module _ (dst o src srcO left leftO w e edges : ℕ) where
   abbrev rowTest : Bool
   rowTest = leb (srcO + w + beside (hasRight edges) e) src
 
-  pub given-inside : backupStatus dst o src srcO left leftO w e edges ≡ 0 → Inside dst o src srcO left leftO w e edges
+  pub given-inside : backupStatus dst o src srcO left leftO w e edges ≡ 0 → RowFits dst o src srcO left leftO w e edges
   unfolding backupStatus
   given-inside z =
       let p = both (targetInside dst o w e && rowTest) (not (hasLeft edges) || leb e leftO && leb leftO left) (inside _ z) in

@@ -11,7 +11,7 @@ use Rattle.definition.specs.Padding.{hasLeft, hasRight, evenOnly}
 use Rattle.definition.specs.Refusals.{beside}
 use Rattle.padding.specs.Padded.{lowerAt}
 
-pub record Inside (dst o src srcO left leftO w e edges : ℕ) : Type 0 where
+pub record RowFits (dst o src srcO left leftO w e edges : ℕ) : Type 0 where
   pub some : 1 ≤ w
   pub front : e ≤ o
   pub room : o + w + e ≤ dst

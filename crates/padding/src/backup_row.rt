@@ -8,7 +8,7 @@ ghost use lib.Seq.{sets};
 ghost use Rattle.definition.specs.Rows.{tab};
 ghost use Rattle.definition.specs.Padding.{rowAt, after};
 ghost use Rattle.definition.specs.Refusals.{beside};
-ghost use Rattle.padding.specs.Steps.{Inside};
+ghost use Rattle.padding.specs.Steps.{RowFits};
 ghost use Rattle.padding.specs.Padded.{backupStatus, paddedRow};
 use crate::beside::beside_of;
 use crate::beside::copy_into;
@@ -101,7 +101,7 @@ pub fn backup_into(
     edge_len: usize,
     edges: usize,
 )
-    requires { ⌜ Inside (length (now dst)) o (length (now src)) «src_o» (length (now left)) «left_off» w «edge_len» edges ⌝ }
+    requires { ⌜ RowFits (length (now dst)) o (length (now src)) «src_o» (length (now left)) «left_off» w «edge_len» edges ⌝ }
     ensures { λ _. ⌜ now (dst .exit) ≡ sets (now (dst .entry)) (o - «edge_len») (paddedRow edges w «edge_len» (after (now (left .entry)) «left_off» (rowAt (now (src .entry)) (pos «src_o»)))) ⌝ }
 {
     let has = has_left(edges);

@@ -8,22 +8,21 @@ use native.Mathlib.Decide.{decLt}
 use lib.Dec.{eqb}
 use lib.ListN.{length, set}
 use borrow.Author.Tests.{le-leb, lt-leb, ne-eqb}
+use Rattle.definition.specs.declared.Operation.the-variants.{Luma}
+use Rattle.definition.specs.declared.Given.{Given}
 use Rattle.definition.specs.Blocks.{side, piecesOf}
-use Rattle.definition.specs.Units.{luma, Lent}
+use Rattle.definition.specs.Units.{Lent}
 use Rattle.definition.specs.Refusals.{sizesOf}
 use Rattle.history.specs.History.{History, opened, _▷_, advance, write, run, sum, last, Valid, After}
 use Rattle.model.specs.Fine.{Fine, fine}
-use Rattle.refusals.specs.declared.Numbers.{Numbers}
 use Rattle.units.specs.declared.Opened.{Opened}
 use Rattle.units.specs.declared.Advanced.{Advanced}
-use Rattle.refusals.specs.Given.{givenOf}
-use Rattle.units.specs.Operations.{Call, answer, Answered}
 use Rattle.units.specs.Openings.{Begun, openStatus, openState}
-use Rattle.units.specs.Advances.{callOf}
 use Rattle.units.specs.Histories.{unit}
-use Rattle.units.specs.LumaHistory.{luma-history}
+use Rattle.units.proofs.LumaHistory.{luma-history}
 use Rattle.paused.specs.declared.Paused.{Paused}
-use Rattle.paused.specs.Paused.{heldSample, Whole}
+use Rattle.paused.specs.Paused.{heldSample, PausedUnit}
+use Rattle.units.specs.Advances.{Call, answer, Answered, callOf}
 
 -- broken off after count rows, and written over where a row was finished
 abbrev between : ℕ → ℕ → History Call (Unit {0})
@@ -36,39 +35,39 @@ at-most h k = omega arith
 from-none : (h c : ℕ) → min h (0 + c) - min h 0 ≡ min h c
 from-none h c = omega arith
 
-module _ (n : Numbers) (l : Lent) (p : List ℕ) (f : openStatus luma n l p ≡ 0) where
-  good : Fine luma (givenOf n) (sizesOf luma l p)
-  good = fine luma (givenOf n) (sizesOf luma l p) f
+module _ (n : Given) (l : Lent) (p : List ℕ) (f : openStatus Luma n l p ≡ 0) where
+  good : Fine Luma n (sizesOf Luma l p)
+  good = fine Luma n (sizesOf Luma l p) f
 
   pub inside : n .off < length p
   inside = omega (arith, good .plane .high, good .wide .low)
 
-  sum-between : (c v : ℕ) → sum (unit luma n l p) (between c v) ≡ c
+  sum-between : (c v : ℕ) → sum (unit Luma n l p) (between c v) ≡ c
   sum-between zero v = omega arith
   sum-between (suc c) v = omega arith
 
-  valid : (c v : ℕ) → Valid (unit luma n l p) (between c v)
+  valid : (c v : ℕ) → Valid (unit Luma n l p) (between c v)
   valid zero v = (tt, refl)
   valid (suc c) v = ((tt, refl), omega (arith, good .tall .low), omega (arith, good .wide .low))
 
-  holds : (H : History Call (Unit {0})) → Valid (unit luma n l p) H → After (unit luma n l p) H
+  holds : (H : History Call (Unit {0})) → Valid (unit Luma n l p) H → After (unit Luma n l p) H
   holds = luma-history n l p f
 
   abbrev early : ℕ → List ℕ
-  early c = answer (callOf luma c l) (openState luma n l p) p .plane
+  early c = answer (callOf Luma c l) (openState Luma n l p) p .plane
 
-  state-between : (c v : ℕ) → run (unit luma n l p) (between c v) .state ≡ answer (callOf luma c l) (openState luma n l p) p .state
+  state-between : (c v : ℕ) → run (unit Luma n l p) (between c v) .state ≡ answer (callOf Luma c l) (openState Luma n l p) p .state
   unfolding answer
   state-between zero v = refl
   state-between (suc c) v = refl
 
-  plane-between : (c v : ℕ) → run (unit luma n l p) (between c v) .plane ≡ cond (eqb c 0) (early c) (set (early c) (n .off) v)
+  plane-between : (c v : ℕ) → run (unit Luma n l p) (between c v) .plane ≡ cond (eqb c 0) (early c) (set (early c) (n .off) v)
   unfolding answer
   plane-between zero v = refl
   plane-between (suc c) v = let e : n .off + 0 * n .stride + 0 ≡ n .off = omega arith in rw (ne-eqb (suc c) 0 (omega arith)) (ap (λ (i : ℕ). set (early (suc c)) i v) e)
 
   -- each sample after the last advance
-  last-is : (c v y x : ℕ) → last (unit luma n l p) (between c v ▷ advance tt (n .h)) y x ≡ heldSample n l p c v y x
+  last-is : (c v y x : ℕ) → last (unit Luma n l p) (between c v ▷ advance tt (n .h)) y x ≡ heldSample n l p c v y x
   last-is zero v y x = rw (le-leb (min (n .h) (0 + 0)) y (omega arith))
   last-is (suc c) v y x =
       elim (decLt y (min (n .h) (0 + suc c))) [
@@ -77,27 +76,27 @@ module _ (n : Numbers) (l : Lent) (p : List ℕ) (f : openStatus luma n l p ≡ 
       ]
 
   -- what the code's calls say, one after another
-  pub paused-whole : (c v : ℕ) (o : Opened) (a b : Advanced) (p₁ p₂ q : List ℕ) (r : Paused) → Begun luma o n l p →
-      Answered a p₁ (answer (callOf luma c l) (o .state) p) → p₂ ≡ cond (eqb c 0) p₁ (set p₁ (n .off) v) →
-      Answered b q (answer (callOf luma (n .h) l) (a .state) p₂) → r .status ≡ b .status → r .first ≡ a .pieces → r .rest ≡ b .pieces → Whole r n l c v p q
+  pub paused-whole : (c v : ℕ) (o : Opened) (a b : Advanced) (p₁ p₂ q : List ℕ) (r : Paused) → Begun Luma o n l p →
+      Answered a p₁ (answer (callOf Luma c l) (o .state) p) → p₂ ≡ cond (eqb c 0) p₁ (set p₁ (n .off) v) →
+      Answered b q (answer (callOf Luma (n .h) l) (a .state) p₂) → r .status ≡ b .status → r .first ≡ a .pieces → r .rest ≡ b .pieces → PausedUnit r n l c v p q
   unfolding answer
   paused-whole c v o a b p₁ p₂ q r begun first over rest rs rf rr =
-      let s : o .state ≡ openState luma n l p = begun .state ∙ rw f in
-      let early-is : Answered a p₁ (answer (callOf luma c l) (openState luma n l p) p) = rw s at first in
-      let state-is : a .state ≡ run (unit luma n l p) (between c v) .state = early-is .state ∙ sym (state-between c v) in
-      let plane-is : p₂ ≡ run (unit luma n l p) (between c v) .plane =
+      let s : o .state ≡ openState Luma n l p = begun .state ∙ rw f in
+      let early-is : Answered a p₁ (answer (callOf Luma c l) (openState Luma n l p) p) = rw s at first in
+      let state-is : a .state ≡ run (unit Luma n l p) (between c v) .state = early-is .state ∙ sym (state-between c v) in
+      let plane-is : p₂ ≡ run (unit Luma n l p) (between c v) .plane =
       over ∙ (ap (λ (e : List ℕ). cond (eqb c 0) e (set e (n .off) v)) (early-is .plane) ∙ sym (plane-between c v)) in
-      let late-is : Answered b q (answer (callOf luma (n .h) l) (run (unit luma n l p) (between c v) .state) (run (unit luma n l p) (between c v) .plane)) =
+      let late-is : Answered b q (answer (callOf Luma (n .h) l) (run (unit Luma n l p) (between c v) .state) (run (unit Luma n l p) (between c v) .plane)) =
       rw (state-is, plane-is) at rest in
       let before = holds (between c v) (valid c v) in
       let after = holds (between c v ▷ advance tt (n .h)) (valid c v, refl) in
       let start = holds opened tt in
-      let total : sum (unit luma n l p) (between c v) ≡ c = sum-between c v in
+      let total : sum (unit Luma n l p) (between c v) ≡ c = sum-between c v in
       let none-yet : min (n .h) 0 ≡ 0 = omega arith in
       let some : min (n .h) (0 + c) - min (n .h) 0 ≡ min (n .h) c = from-none (n .h) c in
-      let done : min (n .h) (sum (unit luma n l p) (between c v)) ≡ min (n .h) c = ap (min (n .h)) total in
-      let all : min (n .h) (sum (unit luma n l p) (between c v) + n .h) ≡ n .h = at-most (n .h) _ in
-      let left : min (n .h) (sum (unit luma n l p) (between c v) + n .h) - min (n .h) (sum (unit luma n l p) (between c v)) ≡ n .h - min (n .h) c = (λ i. all i - done i) in
+      let done : min (n .h) (sum (unit Luma n l p) (between c v)) ≡ min (n .h) c = ap (min (n .h)) total in
+      let all : min (n .h) (sum (unit Luma n l p) (between c v) + n .h) ≡ n .h = at-most (n .h) _ in
+      let left : min (n .h) (sum (unit Luma n l p) (between c v) + n .h) - min (n .h) (sum (unit Luma n l p) (between c v)) ≡ n .h - min (n .h) c = (λ i. all i - done i) in
       record {
         status = rs ∙ (late-is .status ∙ (before .status tt (n .h) refl ∙ sym f));
         first = λ z. rf ∙ (early-is .pieces ∙ (start .pieces tt c refl ∙ (λ i. piecesOf (l .skip) (n .w / side) (none-yet i) (some i))));
@@ -113,10 +112,10 @@ module _ (n : Numbers) (l : Lent) (p : List ℕ) (f : openStatus luma n l p ≡ 
       }
 
   -- the plane that the first advance leaves has the room that it had
-  pub early-size : (c : ℕ) (o : Opened) (a : Advanced) (p₁ : List ℕ) → Begun luma o n l p → Answered a p₁ (answer (callOf luma c l) (o .state) p) → n .off < length p₁
+  pub early-size : (c : ℕ) (o : Opened) (a : Advanced) (p₁ : List ℕ) → Begun Luma o n l p → Answered a p₁ (answer (callOf Luma c l) (o .state) p) → n .off < length p₁
   unfolding answer
   early-size c o a p₁ begun first =
-      let s : o .state ≡ openState luma n l p = begun .state ∙ rw f in
+      let s : o .state ≡ openState Luma n l p = begun .state ∙ rw f in
       let e : p₁ ≡ early c = (rw s at first) .plane in
       let z : length (early c) ≡ length p = holds (opened ▷ advance tt c) (tt, refl) .size in
       rw e (rw z inside)

@@ -6,8 +6,8 @@ ghost use Prim.Native.Nat.{_<_};
 ghost use lib.Dec.{eqb};
 ghost use lib.ListN.{length, set};
 ghost use Rattle.units.specs.Lent.{lumaLent};
-ghost use Rattle.units.specs.Openings.{numbersY};
-ghost use Rattle.paused.specs.Paused.{Whole};
+ghost use Rattle.units.specs.Openings.{givenY};
+ghost use Rattle.paused.specs.Paused.{PausedUnit};
 
 pub struct Paused {
     pub status: u8,
@@ -44,7 +44,7 @@ pub fn restore_paused(
     count: usize,
     v: u8,
 ) -> Paused
-    ensures { λ r. ⌜ Whole r (numbersY w h edges stride «p_off» «lpf_off» «lpf_bottom_off») (lumaLent (now (left .entry)) (now (lpf .entry)) (now («lpf_bottom» .entry)) (now (filter .entry)) (now (skip .entry))) count v (now (p .entry)) (now (p .exit)) ⌝ }
+    ensures { λ r. ⌜ PausedUnit r (givenY w h edges stride «p_off» «lpf_off» «lpf_bottom_off») (lumaLent (now (left .entry)) (now (lpf .entry)) (now («lpf_bottom» .entry)) (now (filter .entry)) (now (skip .entry))) count v (now (p .entry)) (now (p .exit)) ⌝ }
 {
     let opened = units::open_y(
         p,

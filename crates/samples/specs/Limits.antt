@@ -5,8 +5,10 @@ use mathlib.Core.Path.{_≡_, refl}
 use Prim.Native.Nat.{ℕ}
 use lib.Dec.{eqb}
 use lib.ListN.{replicate}
-use Rattle.definition.specs.Units.{luma, user, chroma, Given}
-use Rattle.definition.specs.Refusals.{Sizes, unitStatus, firstPass, classStatus}
+use Rattle.definition.specs.declared.Operation.the-variants.{Luma, User, Chroma}
+use Rattle.definition.specs.declared.Given.{Given}
+use Rattle.definition.specs.declared.Sizes.{Sizes}
+use Rattle.definition.specs.Refusals.{unitStatus, firstPass, classStatus}
 
 infix 20 _gives_
 data Case : Type 0 where
@@ -24,15 +26,15 @@ given w h edges stride ssHor ssVer kind =
       h = h;
       edges = edges;
       stride = stride;
-      lumaStride = 8;
+      «luma_stride» = 8;
       off = 0;
-      topOff = 4;
-      bottomOff = 4;
-      lumaOff = 0;
-      lumaTopOff = 4;
-      lumaBottomOff = 4;
-      ssHor = ssHor;
-      ssVer = ssVer;
+      «top_off» = 4;
+      «bottom_off» = 4;
+      «luma_off» = 0;
+      «luma_top_off» = 4;
+      «luma_bottom_off» = 4;
+      «ss_hor» = ssHor;
+      «ss_ver» = ssVer;
       kind = kind;
     }
 
@@ -43,27 +45,27 @@ lengths plane left top bottom lumaPlane skip noskip filters badMap =
       left = left;
       top = top;
       bottom = bottom;
-      lumaPlane = lumaPlane;
-      lumaTop = 0;
-      lumaBottom = 0;
+      «luma_plane» = lumaPlane;
+      «luma_top» = 0;
+      «luma_bottom» = 0;
       skip = skip;
       noskip = noskip;
       filters = filters;
-      badMap = badMap;
+      «bad_map» = badMap;
     }
 
 -- a luma unit, by its numbers and by the lengths of plane, left, top, bottom, skip and filter
 y : ℕ → ℕ → ℕ → ℕ → ℕ → ℕ → ℕ → ℕ → ℕ → ℕ → ℕ
 y w h edges stride plane left top bottom skip filters =
-    unitStatus luma (given w h edges stride 0 0 0) (lengths plane left top bottom 0 skip 0 filters true)
+    unitStatus Luma (given w h edges stride 0 0 0) (lengths plane left top bottom 0 skip 0 filters true)
 
 -- a 4 by 4 unit with user sets, by the lengths of noskip and filters and whether the map is wrong
 n : ℕ → ℕ → Bool → ℕ
-n noskip filters badMap = unitStatus user (given 4 4 0 4 0 0 0) (lengths 16 0 0 0 0 4 noskip filters badMap)
+n noskip filters badMap = unitStatus User (given 4 4 0 4 0 0 0) (lengths 16 0 0 0 0 4 noskip filters badMap)
 
 -- a 4 by 4 chroma unit, by pair, kind and the lengths of the luma plane and the filter; luma rows are eight bytes apart
 c : ℕ → ℕ → ℕ → ℕ → ℕ → ℕ
-c ssHor ssVer kind lumaPlane filters = unitStatus chroma (given 4 4 0 4 ssHor ssVer kind) (lengths 16 0 0 0 lumaPlane 4 0 filters true)
+c ssHor ssVer kind lumaPlane filters = unitStatus Chroma (given 4 4 0 4 ssHor ssVer kind) (lengths 16 0 0 0 lumaPlane 4 0 filters true)
 
 -- the class index, by the rows' bytes, a row index, the masks and bx, by, block rows
 k : ℕ → ℕ → ℕ → ℕ → ℕ → ℕ → ℕ

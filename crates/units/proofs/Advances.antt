@@ -1,4 +1,4 @@
--- An advance of any kind: so many steps, served or declined.
+-- An advance of any operation: so many steps, served or declined.
 use mathlib.Core.Path.{_≡_, refl, sym, _∙_, ap}
 use mathlib.Core.List.{List}
 use Prim.Native.Nat.{ℕ, zero, suc, _+_, _-_, _/_, min}
@@ -6,16 +6,16 @@ use native.Mathlib.Nat.{add-zero}
 use native.Mathlib.Numerals.{add-one}
 use native.Mathlib.Omega.{arith}
 use lib.ListN.{length}
-use Rattle.definition.specs.Blocks.{piecesOf}
-use Rattle.definition.specs.Units.{Operation, Lent}
+use Rattle.definition.specs.declared.Operation.{Operation}
+use Rattle.definition.specs.Blocks.{side, piecesOf}
+use Rattle.definition.specs.Units.{Lent}
 use Rattle.history.specs.History.{World, Out}
 use Rattle.history.specs.Ring.{Ring}
 use Rattle.history.specs.Steps.{steps}
-use Rattle.history.specs.Operation.{advanced, pickOut}
+use Rattle.history.specs.Advance.{advanced, pickOut}
 use Rattle.units.specs.declared.State.{State}
-use Rattle.units.specs.Windows.{ring}
-use Rattle.units.specs.Operations.{Answered, answer, statusOf, stepOf, moved}
-use Rattle.units.specs.Advances.{callOf, Stepped, Gone}
+use Rattle.units.specs.Step.{ring, stateAt, stepOf, OneRow}
+use Rattle.units.specs.Advances.{Answered, answer, statusOf, callOf, Gone}
 
 module _ (op : Operation) (l : Lent) (s₀ : State) (p₀ : List ℕ) where
   gone-none : Gone op l s₀ p₀ 0 s₀ p₀
@@ -32,24 +32,24 @@ module _ (op : Operation) (l : Lent) (s₀ : State) (p₀ : List ℕ) where
       record { state = ap (λ (x : World State). x .state) d; plane = ap (λ (x : World State). x .plane) d; size = z ∙ g .size }
 
   -- an advance that is served
-  served : (count n pieces : ℕ) {s : State} {p : List ℕ} → statusOf (callOf op count l) s₀ p₀ ≡ 0 → n ≡ min count (s₀ .numbers .h - s₀ .done) →
-      pieces ≡ piecesOf (l .skip) (s₀ .numbers .w / 4) (s₀ .done) n → Gone op l s₀ p₀ n s p →
+  served : (count n pieces : ℕ) {s : State} {p : List ℕ} → statusOf (callOf op count l) s₀ p₀ ≡ 0 → n ≡ min count (s₀ .given .h - s₀ .done) →
+      pieces ≡ piecesOf (l .skip) (s₀ .given .w / side) (s₀ .done) n → Gone op l s₀ p₀ n s p →
       Answered (record { status = 0; pieces = pieces; state = s }) p (answer (callOf op count l) s₀ p₀)
   unfolding answer advanced
   served count n pieces z en ep g = rw (z, ← en) (record { status = refl; pieces = ep; state = g .state; plane = g .plane })
 
-  pub gone-first : Gone op l s₀ p₀ 0 (moved s₀ (s₀ .done + 0) (s₀ .classes) (ring (s₀ .rows) (s₀ .indices) (s₀ .next))) p₀
+  pub gone-first : Gone op l s₀ p₀ 0 (stateAt (s₀ .op) (s₀ .given) (s₀ .done + 0) (s₀ .classes) (ring (s₀ .rows) (s₀ .indices) (s₀ .next))) p₀
   gone-first = rw (add-zero (s₀ .done)) gone-none
 
-  pub gone-row : (i : ℕ) {classes cs p q : List ℕ} {old new : Ring} → Gone op l s₀ p₀ i (moved s₀ (s₀ .done + i) classes old) p →
-      Stepped op (s₀ .numbers) (s₀ .done + i) l p classes old q cs new → Gone op l s₀ p₀ (i + 1) (moved s₀ (s₀ .done + (i + 1)) cs new) q
+  pub gone-row : (i : ℕ) {classes cs p q : List ℕ} {old new : Ring} → Gone op l s₀ p₀ i (stateAt (s₀ .op) (s₀ .given) (s₀ .done + i) classes old) p →
+      OneRow op (s₀ .given) (s₀ .done + i) l p classes old q cs new → Gone op l s₀ p₀ (i + 1) (stateAt (s₀ .op) (s₀ .given) (s₀ .done + (i + 1)) cs new) q
   gone-row i g r =
       let d : s₀ .done + (i + 1) ≡ s₀ .done + i + 1 = omega arith in
       rw d (gone-more i g (r .is (s₀ .op)) (r .size))
 
-  pub gone-all : (count n i pieces : ℕ) {cs p : List ℕ} {r : Ring} → statusOf (callOf op count l) s₀ p₀ ≡ 0 → n ≡ min count (s₀ .numbers .h - s₀ .done) → i ≡ n →
-      pieces ≡ piecesOf (l .skip) (s₀ .numbers .w / 4) (s₀ .done) n → Gone op l s₀ p₀ i (moved s₀ (s₀ .done + i) cs r) p →
-      Answered (record { status = 0; pieces = pieces; state = moved s₀ (s₀ .done + n) cs r }) p (answer (callOf op count l) s₀ p₀)
+  pub gone-all : (count n i pieces : ℕ) {cs p : List ℕ} {r : Ring} → statusOf (callOf op count l) s₀ p₀ ≡ 0 → n ≡ min count (s₀ .given .h - s₀ .done) → i ≡ n →
+      pieces ≡ piecesOf (l .skip) (s₀ .given .w / side) (s₀ .done) n → Gone op l s₀ p₀ i (stateAt (s₀ .op) (s₀ .given) (s₀ .done + i) cs r) p →
+      Answered (record { status = 0; pieces = pieces; state = stateAt (s₀ .op) (s₀ .given) (s₀ .done + n) cs r }) p (answer (callOf op count l) s₀ p₀)
   gone-all count n i pieces z en ei ep g = served count n pieces z en ep (rw ei at g)
 
   -- .. and one that is declined

@@ -8,12 +8,13 @@ use native.Mathlib.Omega.{arith}
 use lib.Dec.{leb}
 use lib.ListN.{length, take, drop, replicate, length-replicate, replicate-append-replicate}
 use lib.Seq.{sets}
-use Rattle.definition.specs.Units.{chroma, Given, Lent}
+use Rattle.definition.specs.Rows.{rowBytes, lumaRowBytes, lumaRowsAt, stateBytes}
+use Rattle.definition.specs.declared.Operation.the-variants.{Chroma}
+use Rattle.definition.specs.declared.Given.{Given}
+use Rattle.definition.specs.Units.{Lent}
 use Rattle.model.specs.Rows.{padRow, firstRow, pad-size}
 use Rattle.model.specs.LumaRows.{lumaPadRow}
 use Rattle.model.specs.Opening.{filled, filledRows, filled-size, openRing}
-use Rattle.refusals.specs.declared.Numbers.{Numbers}
-use Rattle.refusals.specs.Given.{givenOf}
 use Rattle.units.specs.Lent.{rowsLent, chromaLent, lumaRowsLent}
 use Rattle.units.specs.Openings.{openRings}
 use Rattle.units.proofs.TwoLists.{sets-first}
@@ -34,37 +35,37 @@ module _ (len first : ℕ) (pad : ℕ → List ℕ) (a b : List ℕ) (sized : (R
       (one-split (leb first n) (filledRows len first pad a n) (pad n) (n * len) (omega (arith, suc-mul n len, sized n, filled-size len first pad a sized n)))
 
 -- THE ROWS OF AN OPENING: those of the chroma ring, then the luma rows
-module _ (left top bottom : List ℕ) (n : Numbers) (p : List ℕ) where
+module _ (left top bottom : List ℕ) (n : Given) (p : List ℕ) where
   abbrev given : Given
-  given = givenOf n
+  given = n
 
   abbrev first : ℕ
-  first = firstRow chroma given
+  first = firstRow Chroma given
 
   abbrev ownRows : List ℕ
-  ownRows = filledRows 76 first (padRow chroma given (rowsLent left top bottom) p) (replicate 380 0) 4
+  ownRows = filledRows rowBytes first (padRow Chroma given (rowsLent left top bottom) p) (replicate lumaRowsAt 0) 4
 
-  own-long : length ownRows ≡ 380
-  own-long = filled-size 76 first (padRow chroma given (rowsLent left top bottom) p) (replicate 380 0) (pad-size chroma given (rowsLent left top bottom) p) 4 ∙ length-replicate {A = ℕ} 380 0
+  own-long : length ownRows ≡ lumaRowsAt
+  own-long = filled-size rowBytes first (padRow Chroma given (rowsLent left top bottom) p) (replicate lumaRowsAt 0) (pad-size Chroma given (rowsLent left top bottom) p) 4 ∙ length-replicate {A = ℕ} lumaRowsAt 0
 
-  in-front : {rows : List ℕ} → rows ≡ filled chroma given (rowsLent left top bottom) p (replicate 1080 0) 4 → rows ≡ ownRows ++ replicate 700 0
+  in-front : {rows : List ℕ} → rows ≡ filled Chroma given (rowsLent left top bottom) p (replicate stateBytes 0) 4 → rows ≡ ownRows ++ replicate (5 * lumaRowBytes) 0
   unfolding filled
   in-front e =
       e ∙
-      (ap (λ (b : List ℕ). filledRows 76 first (padRow chroma given (rowsLent left top bottom) p) b 4) (sym (replicate-append-replicate {A = ℕ} 380 700 0)) ∙
-      filled-split 76 first (padRow chroma given (rowsLent left top bottom) p) (replicate 380 0) (replicate 700 0) (pad-size chroma given (rowsLent left top bottom) p) 4
-      (rw (length-replicate {A = ℕ} 380 0) (omega arith)))
+      (ap (λ (b : List ℕ). filledRows rowBytes first (padRow Chroma given (rowsLent left top bottom) p) b 4) (sym (replicate-append-replicate {A = ℕ} lumaRowsAt (5 * lumaRowBytes) 0)) ∙
+      filled-split rowBytes first (padRow Chroma given (rowsLent left top bottom) p) (replicate lumaRowsAt 0) (replicate (5 * lumaRowBytes) 0) (pad-size Chroma given (rowsLent left top bottom) p) 4
+      (rw (length-replicate {A = ℕ} lumaRowsAt 0) (omega arith)))
 
-  pub blank-behind : {rows : List ℕ} → rows ≡ filled chroma given (rowsLent left top bottom) p (replicate 1080 0) 4 → drop 380 rows ≡ replicate 700 0
-  blank-behind e = ap (λ (r : List ℕ). drop 380 r) (in-front e) ∙ drop-first ownRows (replicate 700 0) 380 own-long
+  pub blank-behind : {rows : List ℕ} → rows ≡ filled Chroma given (rowsLent left top bottom) p (replicate stateBytes 0) 4 → drop lumaRowsAt rows ≡ replicate (5 * lumaRowBytes) 0
+  blank-behind e = ap (λ (r : List ℕ). drop lumaRowsAt r) (in-front e) ∙ drop-first ownRows (replicate (5 * lumaRowBytes) 0) lumaRowsAt own-long
 
-  pub opened : (lumaPlane lumaTop lumaBottom : List ℕ) {rows rows′ : List ℕ} → rows ≡ filled chroma given (rowsLent left top bottom) p (replicate 1080 0) 4 →
-      rows′ ≡ take 380 rows ++ filledRows 140 first (lumaPadRow given (lumaRowsLent lumaPlane lumaTop lumaBottom)) (replicate 700 0) 4 →
-      rows′ ≡ openRings chroma n (chromaLent left top bottom [] lumaPlane lumaTop lumaBottom []) p .slots
+  pub opened : (lumaPlane lumaTop lumaBottom : List ℕ) {rows rows′ : List ℕ} → rows ≡ filled Chroma given (rowsLent left top bottom) p (replicate stateBytes 0) 4 →
+      rows′ ≡ take lumaRowsAt rows ++ filledRows lumaRowBytes first (lumaPadRow given (lumaRowsLent lumaPlane lumaTop lumaBottom)) (replicate (5 * lumaRowBytes) 0) 4 →
+      rows′ ≡ openRings Chroma n (chromaLent left top bottom [] lumaPlane lumaTop lumaBottom []) p .slots
   unfolding openRing filled
   opened lumaPlane lumaTop lumaBottom {rows = rows} e d =
       let l : Lent = chromaLent left top bottom [] lumaPlane lumaTop lumaBottom [] in
-      let t : take 380 rows ≡ ownRows = ap (λ (r : List ℕ). take 380 r) (in-front e) ∙ take-first ownRows (replicate 700 0) 380 own-long in
+      let t : take lumaRowsAt rows ≡ ownRows = ap (λ (r : List ℕ). take lumaRowsAt r) (in-front e) ∙ take-first ownRows (replicate (5 * lumaRowBytes) 0) lumaRowsAt own-long in
       d ∙
-      ((λ k. t k ++ filledRows 140 first (lumaPadRow given (lumaRowsLent lumaPlane lumaTop lumaBottom)) (replicate 700 0) 4) ∙
-      (λ k. filledRows 76 first (λ R. pad-lent chroma l given p R k) (replicate 380 0) 4 ++ filledRows 140 first (λ R. luma-lent l given R k) (replicate 700 0) 4))
+      ((λ k. t k ++ filledRows lumaRowBytes first (lumaPadRow given (lumaRowsLent lumaPlane lumaTop lumaBottom)) (replicate (5 * lumaRowBytes) 0) 4) ∙
+      (λ k. filledRows rowBytes first (λ R. pad-lent Chroma l given p R k) (replicate lumaRowsAt 0) 4 ++ filledRows lumaRowBytes first (λ R. luma-lent l given R k) (replicate (5 * lumaRowBytes) 0) 4))

@@ -11,27 +11,28 @@ use lib.IntN.{ℤ}
 use lib.ListN.{length, getD, replicate}
 use lib.Seq.{sets}
 use borrow.Author.Tests.{ltb-true, le-ltb, le-leb, lt-leb}
+use Rattle.definition.specs.Limits.{blockColumnLimit, blockRowLimit, mapSize}
+use Rattle.definition.specs.declared.Given.{Given}
 use Rattle.definition.specs.Rows.{tab}
-use Rattle.definition.specs.ClassIndex.{bin, term, featureBin, indexOf, classIndex}
-use Rattle.definition.specs.Refusals.{every}
-use Rattle.definition.specs.Units.{Given, Lent}
+use Rattle.definition.specs.ClassIndex.{bin, term, featureBin, indexOf, classIndex, lastColumn}
+use Rattle.definition.specs.Refusals.{every, rowsSize}
+use Rattle.definition.specs.Units.{Lent}
 use Rattle.features.specs.Features.{rowsStatus, rowStatus, blockFlat, featureRow, served}
 use Rattle.class_index.specs.Answers.{placeStatus}
 use Rattle.definition.specs.Rows.{orZero}
 use Rattle.laws.proofs.Lists.{sets-in, sets-behind, length-tab, getD-tab}
 use Rattle.laws.proofs.Passes.{pass-all}
 use Rattle.history.specs.Ring.{Ring}
-use Rattle.units.specs.Operations.{classAt}
-use Rattle.units.specs.Windows.{ring}
 use Rattle.units.specs.Lent.{classLent}
 use Rattle.refusals.proofs.Every.{every-at}
+use Rattle.units.specs.Step.{classAt, ring}
 
 pub bin-low : (v : ℤ) → bin v ≤ 7
 unfolding bin
 bin-low v = omega arith
 
 -- an index is below the size of a map
-pub index-low : (f₀ f₁ f₂ : ℕ) (q : ℤ) (t : ℕ) → indexOf f₀ f₁ f₂ q t < 4096
+pub index-low : (f₀ f₁ f₂ : ℕ) (q : ℤ) (t : ℕ) → indexOf f₀ f₁ f₂ q t < mapSize
 unfolding indexOf
 index-low f₀ f₁ f₂ q t =
     let a = bin-low (term q t 0) in
@@ -41,34 +42,34 @@ index-low f₀ f₁ f₂ q t =
     omega (arith, a, b, c, d)
 
 -- the call for the features is not refused, and answers each block's
-features-serve : (rows : ℕ) (indices : List ℕ) (n : ℕ) → 760 ≤ rows → ((j : ℕ) → j < 10 → getD indices j 0 ≤ 9) → n ≤ 16 → rowStatus rows indices n ≡ 0
+features-serve : (rows : ℕ) (indices : List ℕ) (n : ℕ) → rowsSize ≤ rows → ((j : ℕ) → j < 10 → getD indices j 0 ≤ 9) → n ≤ blockColumnLimit → rowStatus rows indices n ≡ 0
 unfolding rowsStatus
 features-serve rows indices n size small few =
-    rw (le-leb 760 rows size, pass-all (λ i. leb i 9) indices 10 (λ k h. le-leb (getD indices k 0) 9 (small k h)), le-leb n 16 few)
+    rw (le-leb rowsSize rows size, pass-all (λ i. leb i 9) indices 10 (λ k h. le-leb (getD indices k 0) 9 (small k h)), le-leb n blockColumnLimit few)
 
-pub feature-at : (rows : ℕ) (indices : List ℕ) (n status bx : ℕ) (f : ℕ → ℕ) (r : List ℕ) → 760 ≤ rows → ((j : ℕ) → j < 10 → getD indices j 0 ≤ 9) → n ≤ 16 → bx < n →
+pub feature-at : (rows : ℕ) (indices : List ℕ) (n status bx : ℕ) (f : ℕ → ℕ) (r : List ℕ) → rowsSize ≤ rows → ((j : ℕ) → j < 10 → getD indices j 0 ≤ 9) → n ≤ blockColumnLimit → bx < n →
     status ≡ rowStatus rows indices n → r ≡ featureRow (served status n) f → getD r bx 0 ≡ f bx
 feature-at rows indices n status bx f r size small few l e is =
     let z : status ≡ 0 = e ∙ features-serve rows indices n size small few in
     let at : getD (featureRow n f) (0 + bx) 0 ≡ getD (tab n f) bx 0 =
-    sets-in (tab n f) (replicate 16 0) 0 bx (rw (length-tab n f) l) (omega arith) in
+    sets-in (tab n f) (replicate blockColumnLimit 0) 0 bx (rw (length-tab n f) l) (omega arith) in
     rw (is, z) (rw (zero-add bx) at at ∙ getD-tab n f bx l)
 
 -- the call for the index is not refused
-place-serves : (noskip bx by bh : ℕ) → bx ≤ 15 → by < bh → bh ≤ 16 → bh ≤ noskip → placeStatus noskip bx by bh ≡ 0
+place-serves : (noskip bx by bh : ℕ) → bx ≤ lastColumn → by < bh → bh ≤ blockRowLimit → bh ≤ noskip → placeStatus noskip bx by bh ≡ 0
 unfolding placeStatus
-place-serves noskip bx by bh column line limit masks = rw (le-ltb 15 bx column, le-ltb 16 bh limit, lt-leb bh by line, le-ltb noskip bh masks)
+place-serves noskip bx by bh column line limit masks = rw (le-ltb lastColumn bx column, le-ltb blockRowLimit bh limit, lt-leb bh by line, le-ltb noskip bh masks)
 
 -- what a call answers: the index, in the map
-orZero-low : (status n : ℕ) → n < 4096 → orZero status n < 4096
+orZero-low : (status n : ℕ) → n < mapSize → orZero status n < mapSize
 orZero-low zero n h = h
 orZero-low (suc status) n h = omega arith
 
 module _ (noskip bx by bh index : ℕ) where
-  pub placed-low : index < 4096 → orZero (placeStatus noskip bx by bh) index < 4096
+  pub placed-low : index < mapSize → orZero (placeStatus noskip bx by bh) index < mapSize
   placed-low h = orZero-low (placeStatus noskip bx by bh) index h
 
-  pub placed-is : bx ≤ 15 → by < bh → bh ≤ 16 → bh ≤ noskip → orZero (placeStatus noskip bx by bh) index ≡ index
+  pub placed-is : bx ≤ lastColumn → by < bh → bh ≤ blockRowLimit → bh ≤ noskip → orZero (placeStatus noskip bx by bh) index ≡ index
   placed-is column line limit masks = rw (place-serves noskip bx by bh column line limit masks)
 
 -- an entry of a list that is all below n
@@ -86,7 +87,7 @@ unfolding classAt
 class-is g rows indices noskip map subclass q next y bx = refl
 
 -- a class is below the number of sets
-pub class-low : (g : Given) (l : Lent) (r : Ring) (y bx n : ℕ) → length (l .map) ≡ 4096 → every (λ m. ltb m (length (l .subclass))) (l .map) ≡ true →
+pub class-low : (g : Given) (l : Lent) (r : Ring) (y bx n : ℕ) → length (l .map) ≡ mapSize → every (λ m. ltb m (length (l .subclass))) (l .map) ≡ true →
     every (λ c. ltb c n) (l .subclass) ≡ true → classAt g l r y bx < n
 unfolding classAt
 class-low g l r y bx n size maps subs =

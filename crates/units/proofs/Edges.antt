@@ -3,11 +3,12 @@ use mathlib.Core.Path.{_≡_, refl, sym, _∙_}
 use mathlib.Core.Bool.{Bool, true, false, cond, _||_}
 use Prim.Native.Nat.{ℕ, suc, _+_, _-_, _≤_, _<_, min}
 use native.Mathlib.Omega.{arith}
+use Rattle.definition.specs.declared.Operation.{Operation}
 use Rattle.definition.specs.Padding.{hasTop, hasBottom, topIntegrated, bottomIntegrated}
-use Rattle.definition.specs.Units.{Operation, luma, user, pretrained, chroma, border, savedAbove}
+use Rattle.definition.specs.Units.{border, savedAbove}
 use Rattle.definition.specs.Refusals.{topRows, bottomRows, planeRows}
 use Rattle.model.specs.Rows.{belowRows}
-use Rattle.operations.proofs.Borders.{border-low, top-rows}
+use Rattle.operations.proofs.Borders.{border-low}
 
 module _ (op : Operation) (edges : ℕ) where
   pub below-rows : belowRows op edges ≡ cond (bottomIntegrated edges) (border op) (cond (hasBottom edges) 2 0)
@@ -24,7 +25,7 @@ module _ (op : Operation) (edges : ℕ) where
   rows-high false false = omega arith
 
   pub top-high : topRows op edges ≤ border op
-  top-high = rw (top-rows op edges) (rows-high (topIntegrated edges) (hasTop edges))
+  top-high = rows-high (topIntegrated edges) (hasTop edges)
 
   pub below-high : belowRows op edges ≤ border op
   below-high = rw below-rows (rows-high (bottomIntegrated edges) (hasBottom edges))
@@ -46,26 +47,17 @@ some-above false false e h = absurd (omega arith)
 
 -- a row above the unit that is padded anew is a saved one
 pub above-saved : (op : Operation) (edges : ℕ) → 0 < topRows op edges → (topIntegrated edges || hasTop edges) ≡ true
-above-saved op edges h = some-above (topIntegrated edges) (hasTop edges) (border op) (rw (top-rows op edges) at h)
+above-saved op edges h = some-above (topIntegrated edges) (hasTop edges) (border op) h
 
 -- .. and the saved rows follow one another from the first of them
-four-above : (int top : Bool) (r : ℕ) → 4 - cond int 4 (cond top 2 0) ≤ r → r < 4 → cond int (3 - (4 - suc r)) (1 - (4 - suc r)) ≡ r - (4 - cond int 4 (cond top 2 0))
-four-above true top r h k = omega arith
-four-above false true r h k = omega arith
-four-above false false r h k = absurd (omega arith)
-
-two-above : (int top : Bool) (r : ℕ) → 2 - cond int 2 (cond top 2 0) ≤ r → r < 2 → 1 - (2 - suc r) ≡ r - (2 - cond int 2 (cond top 2 0))
-two-above true top r h k = omega arith
-two-above false true r h k = omega arith
-two-above false false r h k = absurd (omega arith)
+follow : (int top : Bool) (e r : ℕ) → 2 ≤ e → e - cond int e (cond top 2 0) ≤ r → r < e → cond int (e - 1 - (e - suc r)) (1 - (e - suc r)) ≡ r - (e - cond int e (cond top 2 0))
+follow true top e r l h k = omega arith
+follow false true e r l h k = omega arith
+follow false false e r l h k = absurd (omega arith)
 
 pub saved-above : (op : Operation) (edges r : ℕ) → border op - topRows op edges ≤ r → r < border op →
     savedAbove op edges (border op - suc r) ≡ r - (border op - topRows op edges)
-saved-above luma edges r h k = four-above (topIntegrated edges) (hasTop edges) r h k
-saved-above user edges r h k = four-above (topIntegrated edges) (hasTop edges) r h k
-saved-above pretrained edges r h k = four-above (topIntegrated edges) (hasTop edges) r h k
-saved-above chroma edges r h k =
-    rw (top-rows chroma edges) (two-above (topIntegrated edges) (hasTop edges) r (rw (top-rows chroma edges) at h) k)
+saved-above op edges r h k = follow (topIntegrated edges) (hasTop edges) (border op) r (border-low op) h k
 
 -- a test of a bit, and what it found
 pub bit-is : {a b c : Bool} → a ≡ b → a ≡ c → b ≡ c

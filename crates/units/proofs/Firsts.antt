@@ -8,6 +8,7 @@ use native.Mathlib.Omega.{arith}
 use lib.Dec.{eqb}
 use lib.ListN.{getD}
 use borrow.Author.Tests.{eqb-true, not-true, not-false, lt-ltb}
+use Rattle.definition.specs.Limits.{blockColumnLimit}
 use Rattle.laws.proofs.Passes.{not-both}
 use Rattle.definition.specs.Blocks.{masked, firstOf, stretchStart}
 use Rattle.blocks.specs.Answers.{blockStatus, endOf}
@@ -31,7 +32,7 @@ pub record ClassStretch (mask : ℕ) (classes : List ℕ) (bx bw start end : ℕ
   pub clear : Open mask start end
   pub alike : (k : ℕ) → start ≤ k → k < end → getD classes k 0 ≡ getD classes start 0
 
-module _ (mask : ℕ) (classes : List ℕ) (bx bw start : ℕ) (h : bw ≤ 16) (l : bx ≤ bw) (s : start ≡ orZero (blockStatus bx bw) (stretchStart mask bx bw)) where
+module _ (mask : ℕ) (classes : List ℕ) (bx bw start : ℕ) (h : bw ≤ blockColumnLimit) (l : bx ≤ bw) (s : start ≡ orZero (blockStatus bx bw) (stretchStart mask bx bw)) where
   start-is : start ≡ firstOf (λ k. not (masked mask k)) bx (bw - bx)
   start-is = let z : blockStatus bx bw ≡ 0 = block-in bx bw h l in s ∙ rw z
 

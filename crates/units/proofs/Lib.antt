@@ -15,6 +15,9 @@ pub mod Classes
 pub mod TwoLists
 pub mod LumaSources
 pub mod Fits
-pub mod OfKind
 pub mod OneRow
 pub mod ChromaOpening
+pub mod LumaHistory
+pub mod ClassedHistory
+pub mod ChromaHistory
+pub mod AllHistories

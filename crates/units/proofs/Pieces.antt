@@ -7,6 +7,7 @@ use native.Mathlib.Nat.{add-zero}
 use native.Mathlib.Numerals.{add-one}
 use native.Mathlib.Omega.{arith}
 use borrow.Author.Tests.{le-leb}
+use Rattle.definition.specs.Limits.{blockColumnLimit}
 use Rattle.definition.specs.Blocks.{maskAt, masked, clearBelow, piecesOf}
 use Rattle.blocks.specs.Answers.{rowStatus}
 use Rattle.definition.specs.Rows.{orZero}
@@ -21,8 +22,8 @@ unfolding clearBelow
 clear-low mask zero = omega arith
 clear-low mask (suc bw) = omega (arith, one-low (masked mask bw), clear-low mask bw)
 
-pub row-pieces : (mask bw : ℕ) → bw ≤ 16 → orZero (rowStatus bw) (clearBelow mask bw) ≡ clearBelow mask bw
-row-pieces mask bw h = rw (le-leb bw 16 h)
+pub row-pieces : (mask bw : ℕ) → bw ≤ blockColumnLimit → orZero (rowStatus bw) (clearBelow mask bw) ≡ clearBelow mask bw
+row-pieces mask bw h = rw (le-leb bw blockColumnLimit h)
 
 module _ (skip : List ℕ) (bw : ℕ) where
   -- a row more at the end

@@ -8,13 +8,15 @@ use native.Mathlib.Omega.{arith}
 use lib.ListN.{length, getD, set}
 use lib.Seq.{sets, ext-getD}
 use borrow.Author.Tests.{le-leb, lt-leb}
-use Rattle.definition.specs.Rows.{tab}
-use Rattle.definition.specs.Units.{Operation, border, Given, Lent}
+use Rattle.definition.specs.declared.Operation.{Operation}
+use Rattle.definition.specs.declared.Given.{Given}
+use Rattle.definition.specs.Rows.{tab, rowBytes}
+use Rattle.definition.specs.Units.{border, Lent}
 use Rattle.laws.proofs.Lists.{length-tab, getD-tab}
 use Rattle.history.specs.Ring.{wrap, slid}
 use Rattle.model.specs.Rows.{padRow, firstRow, own}
 use Rattle.model.specs.Opening.{filled, filledRows}
-use Rattle.units.specs.Windows.{ring, Fetched}
+use Rattle.units.specs.Step.{ring, Fetched}
 
 module _ (op : Operation) (g : Given) (l : Lent) (p blank : List ℕ) where
   -- before the first row that is padded anew nothing is filled
@@ -23,7 +25,7 @@ module _ (op : Operation) (g : Given) (l : Lent) (p blank : List ℕ) where
   filled-none zero h = refl
   filled-none (suc n) h = rw (lt-leb (firstRow op g) n (omega arith)) (filled-none n (omega arith))
 
-  pub filled-more : (n : ℕ) → firstRow op g ≤ n → filled op g l p blank (n + 1) ≡ sets (filled op g l p blank n) (n * 76) (padRow op g l p n)
+  pub filled-more : (n : ℕ) → firstRow op g ≤ n → filled op g l p blank (n + 1) ≡ sets (filled op g l p blank n) (n * rowBytes) (padRow op g l p n)
   unfolding filled filledRows
   filled-more n h = rw (add-one n, le-leb (firstRow op g) n h)
 
@@ -40,7 +42,7 @@ slid-more n l = rw add-one
 module _ (op : Operation) (g : Given) (l : Lent) (p : List ℕ) (done : ℕ) (rows idx : List ℕ) (next : ℕ) where
   -- the newest row has a slot of its own
   pub fetched-own : {m r : ℕ} {b : Bool} {row rows′ : List ℕ} → m ≡ border op + border op → b ≡ own op g (done + m) → b ≡ true → row ≡ padRow op g l p (done + m) →
-      rows′ ≡ sets rows (next * 76) row → r ≡ wrap (m + 1) next → Fetched op g l p done (ring rows idx next) (ring rows′ (set idx m next) r)
+      rows′ ≡ sets rows (next * rowBytes) row → r ≡ wrap (m + 1) next → Fetched op g l p done (ring rows idx next) (ring rows′ (set idx m next) r)
   fetched-own d o t e s q =
       record {
         is =

@@ -10,17 +10,19 @@ use lib.IntN.{ℤ, pos, negsuc, _-ℤ_}
 use lib.ListN.{replicate}
 use lib.Seq.{sets}
 use borrow.Author.Tests.{le-leb, lt-ltb, le-ltb}
-use Rattle.definition.specs.Rows.{outsideUnless, unlessRefused}
+use Rattle.definition.specs.declared.Operation.{Operation}
+use Rattle.definition.specs.declared.Given.{Given}
+use Rattle.definition.specs.Rows.{outsideUnless, unlessRefused, rowBytes, rowOrigin}
 use Rattle.definition.specs.Padding.{hasLeft, hasRight, hasBottom, bottomIntegrated}
-use Rattle.definition.specs.Units.{Operation, border, Given, Lent, unitRow, sampleAt, ownRow, planeRow, topRow, bottomRow, savedAbove}
-use Rattle.definition.specs.Refusals.{beside, topRows, bottomRows, planeRows}
+use Rattle.definition.specs.Units.{border, Lent, unitRow, sampleAt, ownRow, planeRow, topRow, bottomRow, savedAbove}
+use Rattle.definition.specs.Refusals.{beside, topRows, bottomRows, planeRows, leftOf, rightOf}
 use Rattle.laws.proofs.Ints.{sub-pos, sub-neg}
 use Rattle.padding.specs.Padded.{backupStatus, lpfStatus, paddedRow}
 use Rattle.model.specs.Rows.{padRow, firstRow}
-use Rattle.model.specs.Fine.{Inside}
-use Rattle.units.specs.Windows.{RowsLie}
+use Rattle.laws.proofs.Inside.{Inside}
 use Rattle.operations.proofs.Borders.{border-high}
 use Rattle.units.proofs.Edges.{above-saved, saved-above}
+use Rattle.units.specs.Windows.{PlaneLies, TopLies, BottomLies}
 
 -- NOT REFUSED
 pub served : (status : ℕ) (old written : List ℕ) → status ≡ 0 → unlessRefused status old written ≡ written
@@ -54,58 +56,58 @@ beside-low : (b : Bool) (e : ℕ) → beside b e ≤ e
 beside-low true e = omega arith
 beside-low false e = omega arith
 
-module _ {op : Operation} {g : Given} {plane left top bottom : ℕ} (lie : RowsLie op g plane left top bottom) where
-  width : 6 + g .w + border op ≤ 76
+module _ {op : Operation} {g : Given} {plane left : ℕ} (lie : PlaneLies op g plane left) where
+  width : rowOrigin + g .w + border op ≤ rowBytes
   width = omega (arith, lie .wide .high, border-high op)
 
-  pub plane-inside : (y : ℕ) → y < g .h + planeRows op (g .edges) → g .off + y * g .stride + g .w + beside (hasRight (g .edges)) (border op) ≤ plane
-  plane-inside y h = row-inside plane (g .off) (g .stride) (g .h + planeRows op (g .edges)) (g .w) 0 (beside (hasRight (g .edges)) (border op)) (lie .planeIn) y h
+  pub plane-inside : (y : ℕ) → y < g .h + planeRows op (g .edges) → g .off + y * g .stride + g .w + rightOf g (border op) ≤ plane
+  plane-inside y h = row-inside plane (g .off) (g .stride) (g .h + planeRows op (g .edges)) (g .w) 0 (rightOf g (border op)) (lie .planeIn) y h
 
-  pub top-inside : (n : ℕ) → n < topRows op (g .edges) → g .topOff + n * g .stride + g .w + beside (hasRight (g .edges)) (border op) ≤ top
-  top-inside n h =
-      row-inside top (g .topOff) (g .stride) (topRows op (g .edges)) (g .w) (beside (hasLeft (g .edges)) (border op)) (beside (hasRight (g .edges)) (border op))
-      (lie .topIn (omega arith)) n h
+  pub top-inside : {top : ℕ} → TopLies op g top → (n : ℕ) → n < topRows op (g .edges) → g .«top_off» + n * g .stride + g .w + rightOf g (border op) ≤ top
+  top-inside {top} t n h =
+      row-inside top (g .«top_off») (g .stride) (topRows op (g .edges)) (g .w) (leftOf g (border op)) (rightOf g (border op))
+      (t (omega arith)) n h
 
-  pub bottom-inside : (n : ℕ) → n < bottomRows (g .edges) → g .bottomOff + n * g .stride + g .w + beside (hasRight (g .edges)) (border op) ≤ bottom
-  bottom-inside n h =
-      row-inside bottom (g .bottomOff) (g .stride) (bottomRows (g .edges)) (g .w) (beside (hasLeft (g .edges)) (border op)) (beside (hasRight (g .edges)) (border op))
-      (lie .bottomIn (omega arith)) n h
+  pub bottom-inside : {bottom : ℕ} → BottomLies op g bottom → (n : ℕ) → n < bottomRows (g .edges) → g .«bottom_off» + n * g .stride + g .w + rightOf g (border op) ≤ bottom
+  bottom-inside {bottom} b n h =
+      row-inside bottom (g .«bottom_off») (g .stride) (bottomRows (g .edges)) (g .w) (leftOf g (border op)) (rightOf g (border op))
+      (b (omega arith)) n h
 
   -- a row of the unit, with the left list
-  pub own-fits : {e : ℕ} (y : ℕ) → e ≡ border op → y < g .h → backupStatus 76 6 plane (g .off + y * g .stride) left (6 * y + 6) (g .w) e (g .edges) ≡ 0
+  pub own-fits : {e : ℕ} (y : ℕ) → e ≡ border op → y < g .h → backupStatus rowBytes rowOrigin plane (g .off + y * g .stride) left (6 * y + 6) (g .w) e (g .edges) ≡ 0
   own-fits y q h =
       rw q
-      (backup-fits 76 6 plane (g .off + y * g .stride) left (6 * y + 6) (g .w) (border op) (g .edges)
+      (backup-fits rowBytes rowOrigin plane (g .off + y * g .stride) left (6 * y + 6) (g .w) (border op) (g .edges)
       (omega (arith, lie .wide .low)) (omega (arith, border-high op)) width (plane-inside y (omega arith))
       (λ b. (omega (arith, border-high op), omega (arith, lie .leftIn b))))
 
   -- a row of the plane below the unit
-  pub plane-fits : {e : ℕ} (y : ℕ) → e ≡ border op → g .h ≤ y → y < g .h + planeRows op (g .edges) → lpfStatus 76 6 plane (g .off + y * g .stride) (g .w) e (g .edges) ≡ 0
+  pub plane-fits : {e : ℕ} (y : ℕ) → e ≡ border op → g .h ≤ y → y < g .h + planeRows op (g .edges) → lpfStatus rowBytes rowOrigin plane (g .off + y * g .stride) (g .w) e (g .edges) ≡ 0
   plane-fits y q h k =
       let m : g .stride ≤ y * g .stride = rw (one-mul (g .stride)) at (mul-le-mul-right {m = 1} {n = y} (g .stride) (omega (arith, lie .tall .low))) in
       rw q
-      (lpf-fits 76 6 plane (g .off + y * g .stride) (g .w) (border op) (g .edges)
+      (lpf-fits rowBytes rowOrigin plane (g .off + y * g .stride) (g .w) (border op) (g .edges)
       (omega (arith, lie .wide .low)) (omega (arith, border-high op)) width (plane-inside y k)
       (omega (arith, beside-low (hasLeft (g .edges)) (border op), border-high op, lie .wide .low, lie .apart)))
 
-  pub top-fits : {e : ℕ} (n : ℕ) → e ≡ border op → n < topRows op (g .edges) → lpfStatus 76 6 top (g .topOff + n * g .stride) (g .w) e (g .edges) ≡ 0
-  top-fits n q h =
-      let i = lie .topIn (omega arith) in
+  pub top-fits : {e top : ℕ} → TopLies op g top → (n : ℕ) → e ≡ border op → n < topRows op (g .edges) → lpfStatus rowBytes rowOrigin top (g .«top_off» + n * g .stride) (g .w) e (g .edges) ≡ 0
+  top-fits {top = top} t n q h =
+      let i = t (omega arith) in
       rw q
-      (lpf-fits 76 6 top (g .topOff + n * g .stride) (g .w) (border op) (g .edges)
-      (omega (arith, lie .wide .low)) (omega (arith, border-high op)) width (top-inside n h) (omega (arith, i .low)))
+      (lpf-fits rowBytes rowOrigin top (g .«top_off» + n * g .stride) (g .w) (border op) (g .edges)
+      (omega (arith, lie .wide .low)) (omega (arith, border-high op)) width (top-inside t n h) (omega (arith, i .low)))
 
-  pub bottom-fits : {e : ℕ} (n : ℕ) → e ≡ border op → n < bottomRows (g .edges) → lpfStatus 76 6 bottom (g .bottomOff + n * g .stride) (g .w) e (g .edges) ≡ 0
-  bottom-fits n q h =
-      let i = lie .bottomIn (omega arith) in
+  pub bottom-fits : {e bottom : ℕ} → BottomLies op g bottom → (n : ℕ) → e ≡ border op → n < bottomRows (g .edges) → lpfStatus rowBytes rowOrigin bottom (g .«bottom_off» + n * g .stride) (g .w) e (g .edges) ≡ 0
+  bottom-fits {bottom = bottom} b n q h =
+      let i = b (omega arith) in
       rw q
-      (lpf-fits 76 6 bottom (g .bottomOff + n * g .stride) (g .w) (border op) (g .edges)
-      (omega (arith, lie .wide .low)) (omega (arith, border-high op)) width (bottom-inside n h) (omega (arith, i .low)))
+      (lpf-fits rowBytes rowOrigin bottom (g .«bottom_off» + n * g .stride) (g .w) (border op) (g .edges)
+      (omega (arith, lie .wide .low)) (omega (arith, border-high op)) width (bottom-inside b n h) (omega (arith, i .low)))
 
 -- THE ROW
 -- the padded row made from what stands at row y of the unit, or below it
 abbrev pub rowFrom : ℕ → ℕ → ℕ → (ℤ → ℕ) → List ℕ
-rowFrom edges w e row = sets (replicate 76 0) (6 - e) (paddedRow edges w e row)
+rowFrom edges w e row = sets (replicate rowBytes 0) (rowOrigin - e) (paddedRow edges w e row)
 
 module _ (op : Operation) (g : Given) (l : Lent) (p : List ℕ) where
   pub pad-from : (r : ℕ) (row : ℤ → ℕ) → ((c : ℤ) → unitRow op g l p (pos r -ℤ pos (border op)) c ≡ row c) → padRow op g l p r ≡ rowFrom (g .edges) (g .w) (border op) row

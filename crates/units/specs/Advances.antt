@@ -1,47 +1,70 @@
--- An advance of any kind: what a status of 0 says, the step of one row, and rows one after another.
+-- An advance over any state: its status, and rows one after another. That these steps restore the definition's samples is the theorem of the histories, over a unit
+-- that was opened.
 use mathlib.Core.Path.{_≡_}
-use mathlib.Core.Bool.{true, false}
+use mathlib.Core.Bool.{Bool, cond, not, _&&_, _||_}
 use mathlib.Core.List.{List}
-use Prim.Native.Nat.{ℕ, _+_, _≤_, _<_}
-use lib.Dec.{leb}
-use lib.ListN.{length, getD}
-use borrow.Author.Tests.{eq-eqb, le-ltb, le-leb}
-use Rattle.definition.specs.Units.{Operation, Lent}
-use Rattle.definition.specs.Refusals.{sizesOf, unitStatus, badKept, indexLimit, nextLimit, indicesUpTo}
-use Rattle.laws.proofs.Passes.{pass-all}
-use Rattle.history.specs.Ring.{Ring}
+use Prim.Native.Nat.{ℕ, _/_}
+use lib.Dec.{eqb}
+use lib.ListN.{length}
+use Rattle.definition.specs.declared.Operation.{Operation}
+use Rattle.definition.specs.declared.Sizes.{Sizes}
+use Rattle.definition.specs.Blocks.{side, piecesOf}
+use Rattle.definition.specs.Units.{numberOf, Lent}
+use Rattle.definition.specs.Refusals.{sizesOf, unitStatus, badShape, badKept}
+use Rattle.history.specs.History.{Out}
+use Rattle.history.specs.Advance.{Advancing, advanced}
 use Rattle.history.specs.Steps.{steps}
-use Rattle.model.specs.Fine.{Fine}
-use Rattle.refusals.specs.declared.Numbers.{Numbers}
-use Rattle.refusals.specs.Given.{givenOf}
 use Rattle.units.specs.declared.State.{State}
-use Rattle.units.specs.Operations.{numberOf, Call, statusOf, statusBy, badState, stateAt, stepOf}
+use Rattle.units.specs.declared.Advanced.{Advanced}
+use Rattle.units.specs.Step.{stepOf}
+
+-- a call of advance: which operation, how many rows, and all that is lent besides the plane
+pub record Call : Type 0 where
+  pub op : Operation
+  pub count : ℕ
+  pub lent : Lent
 
 abbrev pub callOf : Operation → ℕ → Lent → Call
 callOf op count l = record { op = op; count = count; lent = l }
 
--- what a status of 0 says of a state and of what is lent
-pub record Admitted (op : Operation) (count : ℕ) (s : State) (l : Lent) (p : List ℕ) : Type 0 where
-  pub status : statusOf (callOf op count l) s p ≡ 0
-  pub done : s .done ≤ s .numbers .h
-  pub low : (j : ℕ) → j < 10 → getD (s .indices) j 0 ≤ indexLimit op
-  pub next : s .next ≤ nextLimit op
-  pub kept : badKept op (s .classes) (length (l .filters)) ≡ false
-  pub fine : Fine op (givenOf (s .numbers)) (sizesOf op l p)
+-- 13: the state's shape, a number of no or another operation included, and the kept classes
+unfoldable pub badState : Operation → State → ℕ → Bool
+badState op s filters =
+    badShape op (not (eqb (s .op) (numberOf op))) (s .done) (s .given .h) (s .indices) (s .next) || badKept op (s .classes) filters
 
--- .. and what lets a state pass
-pub passed : (op : Operation) (count : ℕ) (s : State) (l : Lent) (p : List ℕ) → s .op ≡ numberOf op → s .done ≤ s .numbers .h → ((j : ℕ) → getD (s .indices) j 0 ≤ indexLimit op) →
-    s .next ≤ nextLimit op → badKept op (s .classes) (length (l .filters)) ≡ false → unitStatus op (givenOf (s .numbers)) (sizesOf op l p) ≡ 0 → statusOf (callOf op count l) s p ≡ 0
-unfolding statusBy badState
-passed op count s l p o d low n k u =
-    let i : indicesUpTo (indexLimit op) (s .indices) ≡ true =
-    pass-all (λ j. leb j (indexLimit op)) (s .indices) 10 (λ j _. le-leb (getD (s .indices) j 0) (indexLimit op) (low j)) in
-    rw (eq-eqb (s .op) (numberOf op) o, le-ltb (s .numbers .h) (s .done) d, i, le-ltb (nextLimit op) (s .next) n, k) u
+-- 13 precedes all; the whole unit is checked again
+unfoldable pub statusBy : Operation → State → Sizes → ℕ
+statusBy op s z = cond (badState op s (z .filters)) 13 (unitStatus op (s .given) z)
 
--- ONE ROW: the step of the operation, whatever its number in the state
-pub record Stepped (op : Operation) (g : Numbers) (done : ℕ) (l : Lent) (p classes : List ℕ) (old : Ring) (q classes′ : List ℕ) (new : Ring) : Type 0 where
-  pub is : (o : ℕ) → record { state = stateAt o g (done + 1) classes′ new; plane = q } ≡ stepOf op l (record { state = stateAt o g done classes old; plane = p })
-  pub size : length q ≡ length p
+abbrev pub statusOf : Call → State → List ℕ → ℕ
+statusOf c s p = statusBy (c .op) s (sizesOf (c .op) (c .lent) p)
+
+-- finished: of an operation, and all its rows done
+abbrev pub isFinished : State → Bool
+isFinished s = not (eqb (s .op) 0) && eqb (s .done) (s .given .h)
+
+-- THE ADVANCE over any state
+abbrev pub units : Advancing State Call
+units =
+    record {
+      status = statusOf;
+      count = λ c. c .count;
+      rows = λ s. s .done;
+      height = λ s. s .given .h;
+      complete = isFinished;
+      step = λ c. stepOf (c .op) (c .lent);
+      pieces = λ c s n. piecesOf (c .lent .skip) (s .given .w / side) (s .done) n;
+    }
+
+unfoldable pub answer : Call → State → List ℕ → Out State
+answer c s p = advanced units c s p
+
+-- the code's answer and the plane that it left are that
+pub record Answered (r : Advanced) (q : List ℕ) (o : Out State) : Type 0 where
+  pub status : r .status ≡ o .status
+  pub pieces : r .pieces ≡ o .pieces
+  pub state : r .state ≡ o .state
+  pub plane : q ≡ o .plane
 
 -- ROWS, one after another: i steps lead from a state and a plane to these
 pub record Gone (op : Operation) (l : Lent) (s₀ : State) (p₀ : List ℕ) (i : ℕ) (s : State) (p : List ℕ) : Type 0 where

@@ -1,13 +1,8 @@
 pub mod Lent
-pub mod Windows
-pub mod Unmasked
 pub mod Cells
-pub mod Operations
+pub mod Windows
+pub mod Step
 pub mod Openings
 pub mod Advances
-pub mod OneRow
 pub mod Histories
-pub mod LumaHistory
-pub mod ClassedHistory
-pub mod ChromaHistory
 pub mod LumaFrom

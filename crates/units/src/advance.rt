@@ -1,35 +1,42 @@
-// An advance of a unit of any kind: the table, then rows one after another. Of the lists that a kind has no use for, empty ones are lent.
+// An advance of a unit of any operation: the table, then rows one after another. Of the lists that an operation has no use for, empty ones are lent.
 ghost use mathlib.Core.Path.{_≡_};
 ghost use mathlib.Core.List.{List};
 ghost use lib.IntN.{ℤ};
 ghost use Prim.Native.Nat.{ℕ, _+_, _≤_, _<_};
 ghost use lib.ListN.{length};
+ghost use Rattle.definition.specs.Rows.{indexCount};
 ghost use Rattle.definition.specs.Refusals.{sizesOf};
-ghost use Rattle.operations.specs.Operations.{operationOf};
-ghost use Rattle.refusals.specs.Given.{sizesGiven};
-ghost use Rattle.units.specs.Lent.{filtersOf, unitLent};
-ghost use Rattle.units.specs.Windows.{ring};
-ghost use Rattle.units.specs.Operations.{answer, Answered, stateAt, statusBy};
-ghost use Rattle.units.specs.Advances.{callOf, Gone};
-ghost use Rattle.units.specs.OneRow.{Fit, Sound, Taken, RowStepped, slidBy};
+ghost use Rattle.units.specs.Lent.{filtersOf, unitLent, sourcesLent};
+ghost use Rattle.units.specs.Windows.{Sources, Fit, Ringed, Sound};
+ghost use Rattle.units.specs.Step.{ring, stateAt, slidBy, Taken, OneRow};
+ghost use Rattle.units.specs.Advances.{answer, Answered, statusBy, callOf, Gone};
 use crate::Advanced;
 use crate::State;
-use refusals::Numbers;
-use refusals::Sizes;
+use definition::BLOCK_COLUMN_LIMIT;
+use definition::Given;
+use definition::INDEX_COUNT;
+use definition::Operation;
+use definition::SIDE;
+use definition::STATE_BYTES;
+use definition::Sizes;
+use operations::is_chroma;
+use operations::is_classed;
 
 // How many numbers of filters there are.
-fn numbers_of(op: usize, filters: &[i8], wide: &[i16]) -> usize
-    ensures { λ r. ⌜ r ≡ length (filtersOf (operationOf op) (now (filters .entry)) (now (wide .entry))) ⌝ }
+fn numbers_of(op: Operation, filters: &[i8], wide: &[i16]) -> usize
+    ensures { λ r. ⌜ r ≡ length (filtersOf op (now (filters .entry)) (now (wide .entry))) ⌝ }
 {
-    if op == 3 {
-        return wide.len();
+    match op {
+        Operation::Luma => filters.len(),
+        Operation::User => filters.len(),
+        Operation::Pretrained => wide.len(),
+        Operation::Chroma => filters.len(),
     }
-    filters.len()
 }
 
 // The lengths of all that is lent, and whether the map is wrong.
 pub fn sizes<'a>(
-    op: usize,
+    op: Operation,
     p: &[u8],
     left: &[u8],
     top: &[u8],
@@ -44,7 +51,7 @@ pub fn sizes<'a>(
     luma_bottom: &'a [u8],
     skip: &[u16],
 ) -> Sizes
-    ensures { λ r. ⌜ ((q : ℤ) → sizesGiven r ≡ sizesOf (operationOf op) (unitLent (operationOf op) (now (left .entry)) (now (top .entry)) (now (bottom .entry)) (now (filters .entry)) (now (wide .entry)) (now (map .entry)) (now (subclass .entry)) (now (noskip .entry)) q (now (luma .entry)) (now («luma_top» .entry)) (now («luma_bottom» .entry)) (now (skip .entry))) (now (p .entry))) ⌝ }
+    ensures { λ r. ⌜ ((q : ℤ) → r ≡ sizesOf op (unitLent op (now (left .entry)) (now (top .entry)) (now (bottom .entry)) (now (filters .entry)) (now (wide .entry)) (now (map .entry)) (now (subclass .entry)) (now (noskip .entry)) q (now (luma .entry)) (now («luma_top» .entry)) (now («luma_bottom» .entry)) (now (skip .entry))) (now (p .entry))) ⌝ }
 {
     let n = numbers_of(op, filters, wide);
     Sizes {
@@ -62,17 +69,15 @@ pub fn sizes<'a>(
     }
 }
 
-// What a row is restored from: the newest row of each window, and at the start of a block row the classes of its blocks. Filters and masks are named by the contract alone.
+// What a row is restored from: the newest row of each window, and at the start of a block row the classes of its blocks.
 fn taken<'a>(
-    op: usize,
-    g: Numbers,
+    op: Operation,
+    g: Given,
     done: usize,
     plane: &[u8],
     left: &[u8],
     top: &[u8],
     bottom: &[u8],
-    filters: &[i8],
-    wide: &[i16],
     map: &[u8],
     subclass: &[u8],
     noskip: &[u16],
@@ -80,26 +85,25 @@ fn taken<'a>(
     luma: &'a [u8],
     luma_top: &'a [u8],
     luma_bottom: &'a [u8],
-    skip: &[u16],
-    rows: &mut [u8; 1080],
-    indices: &mut [usize; 10],
+    rows: &mut [u8; STATE_BYTES],
+    indices: &mut [usize; INDEX_COUNT],
     next: usize,
-    classes: &mut [u8; 16],
+    classes: &mut [u8; BLOCK_COLUMN_LIMIT],
 ) -> usize
-    requires { ⌜ (1 ≤ op) × (op ≤ 4) × (done < g .h) ⌝ }
-    requires { ⌜ Fit (operationOf op) g (unitLent (operationOf op) (now left) (now top) (now bottom) (now filters) (now wide) (now map) (now subclass) (now noskip) «base_q» (now luma) (now «luma_top») (now «luma_bottom») (now skip)) (length (now plane)) ⌝ }
-    requires { ⌜ Sound (operationOf op) (length (filtersOf (operationOf op) (now filters) (now wide))) (now classes) (ring (now rows) (now indices) next) ⌝ }
-    ensures { λ r. ⌜ Taken (operationOf op) g (unitLent (operationOf op) (now (left .entry)) (now (top .entry)) (now (bottom .entry)) (now (filters .entry)) (now (wide .entry)) (now (map .entry)) (now (subclass .entry)) (now (noskip .entry)) «base_q» (now (luma .entry)) (now («luma_top» .entry)) (now («luma_bottom» .entry)) (now (skip .entry))) (now (plane .entry)) done (now (classes .entry)) (ring (now (rows .entry)) (now (indices .entry)) next) (now (classes .exit)) (ring (now (rows .exit)) (now (indices .exit)) r) ⌝ }
+    requires { ⌜ done < g .h ⌝ }
+    requires { ⌜ Sources op g (sourcesLent (now left) (now top) (now bottom) (now map) (now subclass) (now noskip) «base_q» (now luma) (now «luma_top») (now «luma_bottom»)) (length (now plane)) ⌝ }
+    requires { ⌜ Ringed op (ring (now rows) (now indices) next) ⌝ }
+    ensures { λ r. ⌜ Taken op g (sourcesLent (now (left .entry)) (now (top .entry)) (now (bottom .entry)) (now (map .entry)) (now (subclass .entry)) (now (noskip .entry)) «base_q» (now (luma .entry)) (now («luma_top» .entry)) (now («luma_bottom» .entry))) (now (plane .entry)) done (now (classes .entry)) (ring (now (rows .entry)) (now (indices .entry)) next) (now (classes .exit)) (ring (now (rows .exit)) (now (indices .exit)) r) ⌝ }
 {
     let turned = crate::rows::fetch_row(op, g, done, plane, left, top, bottom, rows, indices, next);
-    if op == 4 {
+    if is_chroma(op) {
         crate::chroma::fetch_luma_row(g, done, luma, luma_top, luma_bottom, rows, indices, next);
         return turned;
     }
-    if op == 1 {
+    if !is_classed(op) {
         return turned;
     }
-    if done % 4 != 0 {
+    if done % SIDE != 0 {
         return turned;
     }
     crate::classed::block_row(
@@ -122,11 +126,11 @@ fn taken<'a>(
 }
 
 // The windows moved on by a row.
-fn slide(op: usize, indices: &mut [usize; 10])
-    requires { ⌜ (1 ≤ op) × (op ≤ 4) × (length (now indices) ≡ 10) ⌝ }
-    ensures { λ _. ⌜ now (indices .exit) ≡ slidBy (operationOf op) (now (indices .entry)) ⌝ }
+fn slide(op: Operation, indices: &mut [usize; INDEX_COUNT])
+    requires { ⌜ length (now indices) ≡ indexCount ⌝ }
+    ensures { λ _. ⌜ now (indices .exit) ≡ slidBy op (now (indices .entry)) ⌝ }
 {
-    if op == 4 {
+    if is_chroma(op) {
         crate::chroma::slide_both(indices);
         return;
     }
@@ -135,8 +139,8 @@ fn slide(op: usize, indices: &mut [usize; 10])
 
 // One row: what it is restored from, the row restored, the windows moved on.
 fn row<'a>(
-    op: usize,
-    g: Numbers,
+    op: Operation,
+    g: Given,
     done: usize,
     p: &mut [u8],
     left: &[u8],
@@ -152,15 +156,16 @@ fn row<'a>(
     luma_top: &'a [u8],
     luma_bottom: &'a [u8],
     skip: &[u16],
-    rows: &mut [u8; 1080],
-    indices: &mut [usize; 10],
+    rows: &mut [u8; STATE_BYTES],
+    indices: &mut [usize; INDEX_COUNT],
     next: usize,
-    classes: &mut [u8; 16],
+    classes: &mut [u8; BLOCK_COLUMN_LIMIT],
 ) -> usize
-    requires { ⌜ (1 ≤ op) × (op ≤ 4) × (done < g .h) ⌝ }
-    requires { ⌜ Fit (operationOf op) g (unitLent (operationOf op) (now left) (now top) (now bottom) (now filters) (now wide) (now map) (now subclass) (now noskip) «base_q» (now luma) (now «luma_top») (now «luma_bottom») (now skip)) (length (now p)) ⌝ }
-    requires { ⌜ Sound (operationOf op) (length (filtersOf (operationOf op) (now filters) (now wide))) (now classes) (ring (now rows) (now indices) next) ⌝ }
-    ensures { λ r. ⌜ RowStepped (operationOf op) g done (unitLent (operationOf op) (now (left .entry)) (now (top .entry)) (now (bottom .entry)) (now (filters .entry)) (now (wide .entry)) (now (map .entry)) (now (subclass .entry)) (now (noskip .entry)) «base_q» (now (luma .entry)) (now («luma_top» .entry)) (now («luma_bottom» .entry)) (now (skip .entry))) (now (p .entry)) (now (classes .entry)) (ring (now (rows .entry)) (now (indices .entry)) next) (now (p .exit)) (now (classes .exit)) (ring (now (rows .exit)) (now (indices .exit)) r) ⌝ }
+    requires { ⌜ done < g .h ⌝ }
+    requires { ⌜ Fit op g (unitLent op (now left) (now top) (now bottom) (now filters) (now wide) (now map) (now subclass) (now noskip) «base_q» (now luma) (now «luma_top») (now «luma_bottom») (now skip)) (length (now p)) ⌝ }
+    requires { ⌜ Sound op (length (filtersOf op (now filters) (now wide))) (now classes) (ring (now rows) (now indices) next) ⌝ }
+    ensures { λ r. ⌜ OneRow op g done (unitLent op (now (left .entry)) (now (top .entry)) (now (bottom .entry)) (now (filters .entry)) (now (wide .entry)) (now (map .entry)) (now (subclass .entry)) (now (noskip .entry)) «base_q» (now (luma .entry)) (now («luma_top» .entry)) (now («luma_bottom» .entry)) (now (skip .entry))) (now (p .entry)) (now (classes .entry)) (ring (now (rows .entry)) (now (indices .entry)) next) (now (p .exit)) (now (classes .exit)) (ring (now (rows .exit)) (now (indices .exit)) r) ⌝ }
+    ensures { λ r. ⌜ Sound op (length (filtersOf op (now (filters .entry)) (now (wide .entry)))) (now (classes .exit)) (ring (now (rows .exit)) (now (indices .exit)) r) ⌝ }
 {
     let turned = taken(
         op,
@@ -170,8 +175,6 @@ fn row<'a>(
         left,
         top,
         bottom,
-        filters,
-        wide,
         map,
         subclass,
         noskip,
@@ -179,14 +182,13 @@ fn row<'a>(
         luma,
         luma_top,
         luma_bottom,
-        skip,
         rows,
         indices,
         next,
         classes,
     );
     let mask = crate::masks::mask_of_row(skip, done);
-    let step = crate::chroma::columns(g.ss_hor);
+    let step = operations::luma_step(g.ss_hor);
     let at = g.off + done * g.stride;
     crate::restore::restore(
         op,
@@ -207,8 +209,8 @@ fn row<'a>(
 
 // n rows from row `start` on, one after another.
 fn restored_rows<'a>(
-    op: usize,
-    g: Numbers,
+    op: Operation,
+    g: Given,
     start: usize,
     n: usize,
     p: &mut [u8],
@@ -225,15 +227,15 @@ fn restored_rows<'a>(
     luma_top: &'a [u8],
     luma_bottom: &'a [u8],
     skip: &[u16],
-    rows: &mut [u8; 1080],
-    indices: &mut [usize; 10],
+    rows: &mut [u8; STATE_BYTES],
+    indices: &mut [usize; INDEX_COUNT],
     next: usize,
-    classes: &mut [u8; 16],
+    classes: &mut [u8; BLOCK_COLUMN_LIMIT],
 ) -> usize
-    requires { ⌜ (1 ≤ op) × (op ≤ 4) × (start + n ≤ g .h) ⌝ }
-    requires { ⌜ Fit (operationOf op) g (unitLent (operationOf op) (now left) (now top) (now bottom) (now filters) (now wide) (now map) (now subclass) (now noskip) «base_q» (now luma) (now «luma_top») (now «luma_bottom») (now skip)) (length (now p)) ⌝ }
-    requires { ⌜ Sound (operationOf op) (length (filtersOf (operationOf op) (now filters) (now wide))) (now classes) (ring (now rows) (now indices) next) ⌝ }
-    ensures { λ r. ⌜ ((o : ℕ) → Gone (operationOf op) (unitLent (operationOf op) (now (left .entry)) (now (top .entry)) (now (bottom .entry)) (now (filters .entry)) (now (wide .entry)) (now (map .entry)) (now (subclass .entry)) (now (noskip .entry)) «base_q» (now (luma .entry)) (now («luma_top» .entry)) (now («luma_bottom» .entry)) (now (skip .entry))) (stateAt o g start (now (classes .entry)) (ring (now (rows .entry)) (now (indices .entry)) next)) (now (p .entry)) n (stateAt o g (start + n) (now (classes .exit)) (ring (now (rows .exit)) (now (indices .exit)) r)) (now (p .exit))) ⌝ }
+    requires { ⌜ start + n ≤ g .h ⌝ }
+    requires { ⌜ Fit op g (unitLent op (now left) (now top) (now bottom) (now filters) (now wide) (now map) (now subclass) (now noskip) «base_q» (now luma) (now «luma_top») (now «luma_bottom») (now skip)) (length (now p)) ⌝ }
+    requires { ⌜ Sound op (length (filtersOf op (now filters) (now wide))) (now classes) (ring (now rows) (now indices) next) ⌝ }
+    ensures { λ r. ⌜ ((o : ℕ) → Gone op (unitLent op (now (left .entry)) (now (top .entry)) (now (bottom .entry)) (now (filters .entry)) (now (wide .entry)) (now (map .entry)) (now (subclass .entry)) (now (noskip .entry)) «base_q» (now (luma .entry)) (now («luma_top» .entry)) (now («luma_bottom» .entry)) (now (skip .entry))) (stateAt o g start (now (classes .entry)) (ring (now (rows .entry)) (now (indices .entry)) next)) (now (p .entry)) n (stateAt o g (start + n) (now (classes .exit)) (ring (now (rows .exit)) (now (indices .exit)) r)) (now (p .exit))) ⌝ }
 {
     let mut turned = next;
     let mut i = 0;
@@ -268,19 +270,25 @@ fn restored_rows<'a>(
 
 // The table for an advance: the state's shape and the kept classes come first. The state is handed over without its rows, which nothing here looks at.
 fn advance_status(
-    op: usize,
+    op: Operation,
     of: usize,
-    g: Numbers,
+    g: Given,
     done: usize,
     next: usize,
-    classes: &[u8; 16],
-    indices: &[usize; 10],
+    classes: &[u8; BLOCK_COLUMN_LIMIT],
+    indices: &[usize; INDEX_COUNT],
     z: Sizes,
 ) -> u8
-    requires { ⌜ (1 ≤ op) × (op ≤ 4) ⌝ }
-    ensures { λ r. ⌜ ((rows : List ℕ) → r ≡ statusBy (operationOf op) (stateAt of g done (now (classes .entry)) (ring rows (now (indices .entry)) next)) (sizesGiven z)) ⌝ }
+    ensures { λ r. ⌜ ((rows : List ℕ) → r ≡ statusBy op (stateAt of g done (now (classes .entry)) (ring rows (now (indices .entry)) next)) z) ⌝ }
 {
-    if refusals::bad_shape(op, of != op, done, g.h, indices, next) {
+    if refusals::bad_shape(
+        op,
+        of != operations::number_of(op),
+        done,
+        g.h,
+        indices,
+        next,
+    ) {
         return 13;
     }
     if refusals::bad_kept(op, classes, z.filters) {
@@ -291,7 +299,7 @@ fn advance_status(
 
 // An advance by count rows, or all that remain.
 pub fn advance<'a>(
-    op: usize,
+    op: Operation,
     s: State,
     count: usize,
     p: &mut [u8],
@@ -309,8 +317,7 @@ pub fn advance<'a>(
     luma_bottom: &'a [u8],
     skip: &[u16],
 ) -> Advanced
-    requires { ⌜ (1 ≤ op) × (op ≤ 4) ⌝ }
-    ensures { λ r. ⌜ Answered r (now (p .exit)) (answer (callOf (operationOf op) count (unitLent (operationOf op) (now (left .entry)) (now (top .entry)) (now (bottom .entry)) (now (filters .entry)) (now (wide .entry)) (now (map .entry)) (now (subclass .entry)) (now (noskip .entry)) «base_q» (now (luma .entry)) (now («luma_top» .entry)) (now («luma_bottom» .entry)) (now (skip .entry)))) s (now (p .entry))) ⌝ }
+    ensures { λ r. ⌜ Answered r (now (p .exit)) (answer (callOf op count (unitLent op (now (left .entry)) (now (top .entry)) (now (bottom .entry)) (now (filters .entry)) (now (wide .entry)) (now (map .entry)) (now (subclass .entry)) (now (noskip .entry)) «base_q» (now (luma .entry)) (now («luma_top» .entry)) (now («luma_bottom» .entry)) (now (skip .entry)))) s (now (p .entry))) ⌝ }
 {
     let z = sizes(
         op,
@@ -330,7 +337,7 @@ pub fn advance<'a>(
     );
     let mut classes = s.classes;
     let mut indices = s.indices;
-    let status = advance_status(op, s.op, s.numbers, s.done, s.next, &classes, &indices, z);
+    let status = advance_status(op, s.op, s.given, s.done, s.next, &classes, &indices, z);
     if status != 0 {
         return Advanced {
             status,
@@ -338,10 +345,10 @@ pub fn advance<'a>(
             state: s,
         };
     }
-    let g = s.numbers;
+    let g = s.given;
     let start = s.done;
     let n = bounds::least(count, g.h - start);
-    let pieces = crate::masks::pieces_of_rows(skip, g.w / 4, start, n);
+    let pieces = crate::masks::pieces_of_rows(skip, g.w / SIDE, start, n);
     let mut rows = s.rows;
     let next = restored_rows(
         op,
@@ -372,7 +379,7 @@ pub fn advance<'a>(
         pieces,
         state: State {
             op: s.op,
-            numbers: g,
+            given: g,
             done: start + n,
             next,
             classes,

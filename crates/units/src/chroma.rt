@@ -1,31 +1,23 @@
 // The luma rows of a chroma unit. Its rows are two rings, five chroma rows and, behind them, five luma rows.
 ghost use mathlib.Core.Path.{_≡_};
 ghost use mathlib.Core.List.{[], _∷_, _++_};
-ghost use Prim.Native.Nat.{_^_, _≤_, _<_};
+ghost use Prim.Native.Nat.{_≤_, _<_};
 ghost use lib.ListN.{length, take, drop};
-ghost use Rattle.definition.specs.Rows.{tab};
-ghost use Rattle.definition.specs.Units.{chroma};
+ghost use Rattle.definition.specs.declared.Operation.the-variants.{Chroma};
+ghost use Rattle.definition.specs.Rows.{tab, indexCount};
 ghost use Rattle.history.specs.Ring.{slid};
 ghost use Rattle.model.specs.Opening.{openIndex};
-ghost use Rattle.refusals.specs.Given.{givenOf};
 ghost use Rattle.units.specs.Lent.{lumaRowsLent};
-ghost use Rattle.units.specs.Windows.{ring};
-ghost use Rattle.units.specs.OneRow.{LumaLie, LumaFetched};
-use refusals::Numbers;
-
-// Luma columns to a chroma column.
-pub fn columns(ss_hor: usize) -> usize
-    ensures { λ r. ⌜ (r ≤ 2) × («ss_hor» ≤ 1 → r ≡ 2 ^ «ss_hor») ⌝ }
-{
-    if ss_hor == 0 {
-        return 1;
-    }
-    2
-}
+ghost use Rattle.units.specs.Windows.{LumaLie};
+ghost use Rattle.units.specs.Step.{ring, LumaFetched};
+use definition::Given;
+use definition::INDEX_COUNT;
+use definition::Operation;
+use definition::STATE_BYTES;
 
 // The first four indices of each ring take the value of the one behind them.
-pub fn slide_both(indices: &mut [usize; 10])
-    requires { ⌜ length (now indices) ≡ 10 ⌝ }
+pub fn slide_both(indices: &mut [usize; INDEX_COUNT])
+    requires { ⌜ length (now indices) ≡ indexCount ⌝ }
     ensures { λ _. ⌜ now (indices .exit) ≡ slid 4 (take 5 (now (indices .entry))) ++ slid 4 (drop 5 (now (indices .entry))) ⌝ }
 {
     let mut j = 0;
@@ -41,20 +33,20 @@ pub fn slide_both(indices: &mut [usize; 10])
 
 // The newest luma row of the window: into the next slot, or the row before it again.
 pub fn fetch_luma_row<'a>(
-    g: Numbers,
+    g: Given,
     done: usize,
     luma: &'a [u8],
     luma_top: &'a [u8],
     luma_bottom: &'a [u8],
-    rows: &mut [u8; 1080],
-    indices: &mut [usize; 10],
+    rows: &mut [u8; STATE_BYTES],
+    indices: &mut [usize; INDEX_COUNT],
     next: usize,
 )
-    requires { ⌜ LumaLie (givenOf g) (length (now luma)) (length (now «luma_top»)) (length (now «luma_bottom»)) ⌝ }
+    requires { ⌜ LumaLie g (length (now luma)) (length (now «luma_top»)) (length (now «luma_bottom»)) ⌝ }
     requires { ⌜ (done < g .h) × (next ≤ 4) ⌝ }
-    ensures { λ _. ⌜ LumaFetched (givenOf g) (lumaRowsLent (now (luma .entry)) (now («luma_top» .entry)) (now («luma_bottom» .entry))) done (ring (now (rows .entry)) (now (indices .entry)) next) (ring (now (rows .exit)) (now (indices .exit)) next) ⌝ }
+    ensures { λ _. ⌜ LumaFetched g (lumaRowsLent (now (luma .entry)) (now («luma_top» .entry)) (now («luma_bottom» .entry))) done (ring (now (rows .entry)) (now (indices .entry)) next) (ring (now (rows .exit)) (now (indices .exit)) next) ⌝ }
 {
-    if crate::rows::is_own(4, g, done + 4) {
+    if crate::rows::is_own(Operation::Chroma, g, done + 4) {
         let row = crate::luma_rows::padded_luma_row(g, luma, luma_top, luma_bottom, done + 4);
         crate::luma_rows::put_luma_row(rows, next, row);
         indices[9] = next;
@@ -65,13 +57,13 @@ pub fn fetch_luma_row<'a>(
 }
 
 // The five indices that an opening hands out for each ring.
-pub fn open_indices(g: Numbers) -> [usize; 10]
-    ensures { λ r. ⌜ r ≡ (tab 4 (openIndex chroma (givenOf g)) ++ (0 ∷ [])) ++ (tab 4 (openIndex chroma (givenOf g)) ++ (0 ∷ [])) ⌝ }
+pub fn open_indices(g: Given) -> [usize; INDEX_COUNT]
+    ensures { λ r. ⌜ r ≡ (tab 4 (openIndex Chroma g) ++ (0 ∷ [])) ++ (tab 4 (openIndex Chroma g) ++ (0 ∷ [])) ⌝ }
 {
-    let f = crate::rows::first_row(4, g);
-    let a = crate::rows::larger(0, f);
-    let b = crate::rows::larger(1, f);
-    let c = crate::rows::larger(2, f);
-    let d = crate::rows::larger(3, f);
+    let f = crate::rows::first_row(Operation::Chroma, g);
+    let a = bounds::larger(0, f);
+    let b = bounds::larger(1, f);
+    let c = bounds::larger(2, f);
+    let d = bounds::larger(3, f);
     [a, b, c, d, 0, a, b, c, d, 0]
 }

@@ -5,23 +5,24 @@ ghost use Prim.Native.Nat.{ℕ, _+_, _*_, _/_, _%_, _≤_, _<_};
 ghost use lib.Dec.{ltb};
 ghost use lib.ListN.{length, getD, set};
 ghost use lib.Seq.{sets};
-ghost use Rattle.definition.specs.Rows.{tab};
+ghost use Rattle.definition.specs.Blocks.{side};
+ghost use Rattle.definition.specs.Limits.{widthLimit, heightLimit, blockRowLimit, mapSize};
+ghost use Rattle.definition.specs.Rows.{tab, rowBytes, indexCount};
+ghost use Rattle.definition.specs.Units.{classed};
 ghost use Rattle.definition.specs.Refusals.{every};
-ghost use Rattle.definition.specs.ClassIndex.{skipFactor, skipSum, indexOf};
-ghost use Rattle.model.specs.Fine.{Sized};
-ghost use Rattle.operations.specs.Operations.{operationOf};
-ghost use Rattle.refusals.specs.Given.{givenOf};
+ghost use Rattle.definition.specs.ClassIndex.{lastColumn, skipFactor, skipSum, indexOf};
+ghost use Rattle.laws.proofs.Inside.{Sized};
 ghost use Rattle.model.specs.Rows.{padRow};
 ghost use Rattle.units.specs.Lent.{rowsLent, classLent};
-ghost use Rattle.units.specs.Windows.{RowsLie, ring};
-ghost use Rattle.units.specs.Operations.{classAt};
-use refusals::Numbers;
-
-fn wide(x: u8) -> usize
-    ensures { λ r. ⌜ r ≡ x ⌝ }
-{
-    x as usize
-}
+ghost use Rattle.units.specs.Windows.{RowsLie};
+ghost use Rattle.units.specs.Step.{ring, classAt};
+use bounds::wide;
+use definition::BLOCK_COLUMN_LIMIT;
+use definition::Given;
+use definition::INDEX_COUNT;
+use definition::Operation;
+use definition::SIDE;
+use definition::STATE_BYTES;
 
 // The class of the block in column bx, of block row `by` of `bh`, by its features.
 fn class_of(
@@ -36,8 +37,8 @@ fn class_of(
     by: usize,
     bh: usize,
 ) -> u8
-    requires { ⌜ (bx ≤ 15) × (by < bh) × (bh ≤ 16) × (bh ≤ length (now noskip)) ⌝ }
-    requires { ⌜ (length (now map) ≡ 4096) × (every (λ m. ltb m (length (now subclass))) (now map) ≡ true) ⌝ }
+    requires { ⌜ (bx ≤ lastColumn) × (by < bh) × (bh ≤ blockRowLimit) × (bh ≤ length (now noskip)) ⌝ }
+    requires { ⌜ (length (now map) ≡ mapSize) × (every (λ m. ltb m (length (now subclass))) (now map) ≡ true) ⌝ }
     ensures { λ r. ⌜ r ≡ getD (now (subclass .entry)) (getD (now (map .entry)) (indexOf vertical falling rising «base_q» (skipFactor * skipSum (now (noskip .entry)) bh bx by)) 0) 0 ⌝ }
 {
     let found = class_index::class_of_features(
@@ -57,24 +58,24 @@ fn class_of(
 
 // The classes of the blocks of row `done`'s block row; those past the unit's width stay.
 fn classes_of_row(
-    g: Numbers,
+    g: Given,
     done: usize,
-    rows: &[u8; 1080],
-    indices: &[usize; 10],
+    rows: &[u8; STATE_BYTES],
+    indices: &[usize; INDEX_COUNT],
     noskip: &[u16],
     base_q: i32,
     map: &[u8],
     subclass: &[u8],
-    classes: &mut [u8; 16],
+    classes: &mut [u8; BLOCK_COLUMN_LIMIT],
 )
-    requires { ⌜ Sized 64 (g .w) × Sized 64 (g .h) × (done < g .h) × (g .h / 4 ≤ length (now noskip)) ⌝ }
-    requires { ⌜ ((j : ℕ) → j < 10 → getD (now indices) j 0 ≤ 9) ⌝ }
-    requires { ⌜ (length (now map) ≡ 4096) × (every (λ m. ltb m (length (now subclass))) (now map) ≡ true) ⌝ }
-    ensures { λ _. ⌜ now (classes .exit) ≡ sets (now (classes .entry)) 0 (tab (g .w / 4) (classAt (givenOf g) (classLent (now (noskip .entry)) (now (map .entry)) (now (subclass .entry)) «base_q») (ring (now (rows .entry)) (now (indices .entry)) 0) done)) ⌝ }
+    requires { ⌜ Sized widthLimit (g .w) × Sized heightLimit (g .h) × (done < g .h) × (g .h / side ≤ length (now noskip)) ⌝ }
+    requires { ⌜ ((j : ℕ) → j < indexCount → getD (now indices) j 0 ≤ 9) ⌝ }
+    requires { ⌜ (length (now map) ≡ mapSize) × (every (λ m. ltb m (length (now subclass))) (now map) ≡ true) ⌝ }
+    ensures { λ _. ⌜ now (classes .exit) ≡ sets (now (classes .entry)) 0 (tab (g .w / side) (classAt g (classLent (now (noskip .entry)) (now (map .entry)) (now (subclass .entry)) «base_q») (ring (now (rows .entry)) (now (indices .entry)) 0) done)) ⌝ }
 {
-    let n = g.w / 4;
-    let by = done / 4;
-    let bh = g.h / 4;
+    let n = g.w / SIDE;
+    let by = done / SIDE;
+    let bh = g.h / SIDE;
     let f = features::row_features(rows, indices, n);
     let vertical = f.vertical;
     let falling = f.falling;
@@ -99,8 +100,8 @@ fn classes_of_row(
 
 // The start of a block row: the row five below is padded into the tenth slot, which the features alone look at, and the classes are worked out.
 pub fn block_row(
-    op: usize,
-    g: Numbers,
+    op: Operation,
+    g: Given,
     done: usize,
     plane: &[u8],
     left: &[u8],
@@ -110,16 +111,16 @@ pub fn block_row(
     subclass: &[u8],
     noskip: &[u16],
     base_q: i32,
-    rows: &mut [u8; 1080],
-    indices: &mut [usize; 10],
-    classes: &mut [u8; 16],
+    rows: &mut [u8; STATE_BYTES],
+    indices: &mut [usize; INDEX_COUNT],
+    classes: &mut [u8; BLOCK_COLUMN_LIMIT],
 )
-    requires { ⌜ (1 ≤ op) × (op ≤ 3) × (done < g .h) × (done % 4 ≡ 0) × (g .h / 4 ≤ length (now noskip)) ⌝ }
-    requires { ⌜ RowsLie (operationOf op) (givenOf g) (length (now plane)) (length (now left)) (length (now top)) (length (now bottom)) ⌝ }
+    requires { ⌜ (classed op ≡ true) × (done < g .h) × (done % side ≡ 0) × (g .h / side ≤ length (now noskip)) ⌝ }
+    requires { ⌜ RowsLie op g (length (now plane)) (length (now left)) (length (now top)) (length (now bottom)) ⌝ }
     requires { ⌜ ((j : ℕ) → getD (now indices) j 0 ≤ 9) ⌝ }
-    requires { ⌜ (length (now map) ≡ 4096) × (every (λ m. ltb m (length (now subclass))) (now map) ≡ true) ⌝ }
-    ensures { λ _. ⌜ (now (rows .exit) ≡ sets (now (rows .entry)) (9 * 76) (padRow (operationOf op) (givenOf g) (rowsLent (now (left .entry)) (now (top .entry)) (now (bottom .entry))) (now (plane .entry)) (done + 9))) × (now (indices .exit) ≡ set (now (indices .entry)) 9 9) ⌝ }
-    ensures { λ _. ⌜ now (classes .exit) ≡ sets (now (classes .entry)) 0 (tab (g .w / 4) (classAt (givenOf g) (classLent (now (noskip .entry)) (now (map .entry)) (now (subclass .entry)) «base_q») (ring (now (rows .exit)) (now (indices .exit)) 0) done)) ⌝ }
+    requires { ⌜ (length (now map) ≡ mapSize) × (every (λ m. ltb m (length (now subclass))) (now map) ≡ true) ⌝ }
+    ensures { λ _. ⌜ (now (rows .exit) ≡ sets (now (rows .entry)) (9 * rowBytes) (padRow op g (rowsLent (now (left .entry)) (now (top .entry)) (now (bottom .entry))) (now (plane .entry)) (done + 9))) × (now (indices .exit) ≡ set (now (indices .entry)) 9 9) ⌝ }
+    ensures { λ _. ⌜ now (classes .exit) ≡ sets (now (classes .entry)) 0 (tab (g .w / side) (classAt g (classLent (now (noskip .entry)) (now (map .entry)) (now (subclass .entry)) «base_q») (ring (now (rows .exit)) (now (indices .exit)) 0) done)) ⌝ }
 {
     let row = crate::rows::padded_row(op, g, plane, left, top, bottom, done + 9);
     crate::rows::put_row(rows, 9, row);

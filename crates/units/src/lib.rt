@@ -1,33 +1,36 @@
 // Units that can be broken off between rows: open hands out a state, advance takes it with a row count and hands it back.
 ghost use mathlib.Core.Path.{_≡_};
-ghost use Rattle.definition.specs.Units.{luma, user, pretrained, chroma};
+ghost use Rattle.definition.specs.declared.Operation.the-variants.{Luma, User, Pretrained, Chroma};
 ghost use Rattle.units.specs.Lent.{lumaLent, classedLent, chromaLent};
-ghost use Rattle.units.specs.Operations.{answer, Answered, isFinished};
-ghost use Rattle.units.specs.Openings.{numbersY, numbersC, Begun};
-ghost use Rattle.units.specs.Advances.{callOf};
+ghost use Rattle.units.specs.Openings.{givenY, givenC, Begun};
+ghost use Rattle.units.specs.Advances.{callOf, isFinished, answer, Answered};
 
-mod advance;
+pub mod advance;
 mod chroma;
 mod classed;
 mod luma_rows;
 mod masks;
-mod opening;
+pub mod opening;
 mod restore;
 mod rows;
 
-use refusals::Numbers;
+use definition::BLOCK_COLUMN_LIMIT;
+use definition::Given;
+use definition::INDEX_COUNT;
+use definition::Operation;
+use definition::STATE_BYTES;
 
 // A unit between two advances. op: 0 none, 1 y, 2 n (user sets), 3 p (pretrained), 4 c.
 // rows: ten padded rows of 76 bytes; of a chroma unit five of 76 and, behind them, five luma rows of 140.
 #[repr(C)]
 pub struct State {
     pub op: usize,
-    pub numbers: Numbers,
+    pub given: Given,
     pub done: usize,
     pub next: usize,
-    pub classes: [u8; 16],
-    pub indices: [usize; 10],
-    pub rows: [u8; 1080],
+    pub classes: [u8; BLOCK_COLUMN_LIMIT],
+    pub indices: [usize; INDEX_COUNT],
+    pub rows: [u8; STATE_BYTES],
 }
 
 // The state comes first: behind the status it is copied once more where a whole unit is restored.
@@ -52,7 +55,7 @@ impl State {
         if self.op == 0 {
             return false;
         }
-        self.done == self.numbers.h
+        self.done == self.given.h
     }
 
     // The next count rows of a luma unit, or all that remain.
@@ -66,13 +69,13 @@ impl State {
         filter: &[i8],
         skip: &[u16],
     ) -> Advanced
-        ensures { λ r. ⌜ Answered r (now (p .exit)) (answer (callOf luma count (lumaLent (now (left .entry)) (now (lpf .entry)) (now («lpf_bottom» .entry)) (now (filter .entry)) (now (skip .entry)))) self (now (p .entry))) ⌝ }
+        ensures { λ r. ⌜ Answered r (now (p .exit)) (answer (callOf Luma count (lumaLent (now (left .entry)) (now (lpf .entry)) (now («lpf_bottom» .entry)) (now (filter .entry)) (now (skip .entry)))) self (now (p .entry))) ⌝ }
     {
         let no_sets = [0i16; 0];
         let no_bytes = [0u8; 0];
         let no_masks = [0u16; 0];
         advance::advance(
-            1,
+            Operation::Luma,
             self,
             count,
             p,
@@ -107,12 +110,12 @@ impl State {
         base_q: i32,
         skip: &[u16],
     ) -> Advanced
-        ensures { λ r. ⌜ Answered r (now (p .exit)) (answer (callOf user count (classedLent (now (left .entry)) (now (lpf .entry)) (now («lpf_bottom» .entry)) (now (filters .entry)) (now (map .entry)) (now (subclass .entry)) (now (noskip .entry)) (now (skip .entry)) «base_q»)) self (now (p .entry))) ⌝ }
+        ensures { λ r. ⌜ Answered r (now (p .exit)) (answer (callOf User count (classedLent (now (left .entry)) (now (lpf .entry)) (now («lpf_bottom» .entry)) (now (filters .entry)) (now (map .entry)) (now (subclass .entry)) (now (noskip .entry)) (now (skip .entry)) «base_q»)) self (now (p .entry))) ⌝ }
     {
         let no_sets = [0i16; 0];
         let no_bytes = [0u8; 0];
         advance::advance(
-            2,
+            Operation::User,
             self,
             count,
             p,
@@ -147,12 +150,12 @@ impl State {
         base_q: i32,
         skip: &[u16],
     ) -> Advanced
-        ensures { λ r. ⌜ Answered r (now (p .exit)) (answer (callOf pretrained count (classedLent (now (left .entry)) (now (lpf .entry)) (now («lpf_bottom» .entry)) (now (filters .entry)) (now (map .entry)) (now (subclass .entry)) (now (noskip .entry)) (now (skip .entry)) «base_q»)) self (now (p .entry))) ⌝ }
+        ensures { λ r. ⌜ Answered r (now (p .exit)) (answer (callOf Pretrained count (classedLent (now (left .entry)) (now (lpf .entry)) (now («lpf_bottom» .entry)) (now (filters .entry)) (now (map .entry)) (now (subclass .entry)) (now (noskip .entry)) (now (skip .entry)) «base_q»)) self (now (p .entry))) ⌝ }
     {
         let no_bytes = [0u8; 0];
         let no_filters = [0i8; 0];
         advance::advance(
-            3,
+            Operation::Pretrained,
             self,
             count,
             p,
@@ -186,13 +189,13 @@ impl State {
         luma_bottom: &'a [u8],
         skip: &[u16],
     ) -> Advanced
-        ensures { λ r. ⌜ Answered r (now (p .exit)) (answer (callOf chroma count (chromaLent (now (left .entry)) (now (lpf .entry)) (now («lpf_bottom» .entry)) (now (filter .entry)) (now (luma .entry)) (now («luma_top» .entry)) (now («luma_bottom» .entry)) (now (skip .entry)))) self (now (p .entry))) ⌝ }
+        ensures { λ r. ⌜ Answered r (now (p .exit)) (answer (callOf Chroma count (chromaLent (now (left .entry)) (now (lpf .entry)) (now («lpf_bottom» .entry)) (now (filter .entry)) (now (luma .entry)) (now («luma_top» .entry)) (now («luma_bottom» .entry)) (now (skip .entry)))) self (now (p .entry))) ⌝ }
     {
         let no_sets = [0i16; 0];
         let no_bytes = [0u8; 0];
         let no_masks = [0u16; 0];
         advance::advance(
-            4,
+            Operation::Chroma,
             self,
             count,
             p,
@@ -229,14 +232,14 @@ pub fn open_y(
     edges: usize,
     skip: &[u16],
 ) -> Opened
-    ensures { λ r. ⌜ Begun luma r (numbersY w h edges stride «p_off» «lpf_off» «lpf_bottom_off») (lumaLent (now (left .entry)) (now (lpf .entry)) (now («lpf_bottom» .entry)) (now (filter .entry)) (now (skip .entry))) (now (p .entry)) ⌝ }
+    ensures { λ r. ⌜ Begun Luma r (givenY w h edges stride «p_off» «lpf_off» «lpf_bottom_off») (lumaLent (now (left .entry)) (now (lpf .entry)) (now («lpf_bottom» .entry)) (now (filter .entry)) (now (skip .entry))) (now (p .entry)) ⌝ }
 {
-    let g = opening::numbers(w, h, edges, stride, p_off, lpf_off, lpf_bottom_off);
+    let g = opening::given_y(w, h, edges, stride, p_off, lpf_off, lpf_bottom_off);
     let no_sets = [0i16; 0];
     let no_bytes = [0u8; 0];
     let no_masks = [0u16; 0];
     opening::open(
-        1,
+        Operation::Luma,
         g,
         p,
         left,
@@ -274,13 +277,13 @@ pub fn open_n(
     edges: usize,
     skip: &[u16],
 ) -> Opened
-    ensures { λ r. ⌜ Begun user r (numbersY w h edges stride «p_off» «lpf_off» «lpf_bottom_off») (classedLent (now (left .entry)) (now (lpf .entry)) (now («lpf_bottom» .entry)) (now (filters .entry)) (now (map .entry)) (now (subclass .entry)) (now (noskip .entry)) (now (skip .entry)) «base_q») (now (p .entry)) ⌝ }
+    ensures { λ r. ⌜ Begun User r (givenY w h edges stride «p_off» «lpf_off» «lpf_bottom_off») (classedLent (now (left .entry)) (now (lpf .entry)) (now («lpf_bottom» .entry)) (now (filters .entry)) (now (map .entry)) (now (subclass .entry)) (now (noskip .entry)) (now (skip .entry)) «base_q») (now (p .entry)) ⌝ }
 {
-    let g = opening::numbers(w, h, edges, stride, p_off, lpf_off, lpf_bottom_off);
+    let g = opening::given_y(w, h, edges, stride, p_off, lpf_off, lpf_bottom_off);
     let no_sets = [0i16; 0];
     let no_bytes = [0u8; 0];
     opening::open(
-        2,
+        Operation::User,
         g,
         p,
         left,
@@ -318,13 +321,13 @@ pub fn open_p(
     edges: usize,
     skip: &[u16],
 ) -> Opened
-    ensures { λ r. ⌜ Begun pretrained r (numbersY w h edges stride «p_off» «lpf_off» «lpf_bottom_off») (classedLent (now (left .entry)) (now (lpf .entry)) (now («lpf_bottom» .entry)) (now (filters .entry)) (now (map .entry)) (now (subclass .entry)) (now (noskip .entry)) (now (skip .entry)) «base_q») (now (p .entry)) ⌝ }
+    ensures { λ r. ⌜ Begun Pretrained r (givenY w h edges stride «p_off» «lpf_off» «lpf_bottom_off») (classedLent (now (left .entry)) (now (lpf .entry)) (now («lpf_bottom» .entry)) (now (filters .entry)) (now (map .entry)) (now (subclass .entry)) (now (noskip .entry)) (now (skip .entry)) «base_q») (now (p .entry)) ⌝ }
 {
-    let g = opening::numbers(w, h, edges, stride, p_off, lpf_off, lpf_bottom_off);
+    let g = opening::given_y(w, h, edges, stride, p_off, lpf_off, lpf_bottom_off);
     let no_bytes = [0u8; 0];
     let no_filters = [0i8; 0];
     opening::open(
-        3,
+        Operation::Pretrained,
         g,
         p,
         left,
@@ -368,9 +371,9 @@ pub fn open_c<'a>(
     edges: usize,
     skip: &[u16],
 ) -> Opened
-    ensures { λ r. ⌜ Begun chroma r (numbersC w h edges stride lstride «p_off» «lpf_off» «lpf_bottom_off» «luma_off» «luma_top_off» «luma_bottom_off» «ss_hor» «ss_ver» «ds_flt») (chromaLent (now (left .entry)) (now (lpf .entry)) (now («lpf_bottom» .entry)) (now (filter .entry)) (now (luma .entry)) (now («luma_top» .entry)) (now («luma_bottom» .entry)) (now (skip .entry))) (now (p .entry)) ⌝ }
+    ensures { λ r. ⌜ Begun Chroma r (givenC w h edges stride lstride «p_off» «lpf_off» «lpf_bottom_off» «luma_off» «luma_top_off» «luma_bottom_off» «ss_hor» «ss_ver» «ds_flt») (chromaLent (now (left .entry)) (now (lpf .entry)) (now («lpf_bottom» .entry)) (now (filter .entry)) (now (luma .entry)) (now («luma_top» .entry)) (now («luma_bottom» .entry)) (now (skip .entry))) (now (p .entry)) ⌝ }
 {
-    let g = Numbers {
+    let g = Given {
         w,
         h,
         edges,
@@ -390,7 +393,7 @@ pub fn open_c<'a>(
     let no_bytes = [0u8; 0];
     let no_masks = [0u16; 0];
     opening::open(
-        4,
+        Operation::Chroma,
         g,
         p,
         left,

@@ -2,20 +2,22 @@
 ghost use mathlib.Core.Path.{_≡_};
 ghost use Prim.Native.Nat.{_+_, _≤_, _<_};
 ghost use lib.ListN.{length};
+ghost use Rattle.definition.specs.Limits.{heightLimit, blockColumnLimit};
 ghost use Rattle.definition.specs.Blocks.{piecesOf, maskAt};
+use definition::SIDE;
 
 // Of four numbers for each block row the first is used.
 pub fn mask_of_row(skip: &[u16], y: usize) -> u16
     requires { ⌜ y < length (now skip) ⌝ }
     ensures { λ r. ⌜ r ≡ maskAt (now (skip .entry)) y ⌝ }
 {
-    let at = y / 4 * 4;
+    let at = y / SIDE * SIDE;
     skip[at]
 }
 
 // The pieces of n rows from row k on.
 pub fn pieces_of_rows(skip: &[u16], bw: usize, k: usize, n: usize) -> usize
-    requires { ⌜ (bw ≤ 16) × (k + n ≤ 64) × (k + n ≤ length (now skip)) ⌝ }
+    requires { ⌜ (bw ≤ blockColumnLimit) × (k + n ≤ heightLimit) × (k + n ≤ length (now skip)) ⌝ }
     ensures { λ r. ⌜ r ≡ piecesOf (now (skip .entry)) bw k n ⌝ }
 {
     let mut pieces = 0;

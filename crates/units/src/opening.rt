@@ -1,24 +1,28 @@
-// What an opening hands back, whatever the kind of unit.
+// What an opening hands back, whatever the operation.
 ghost use mathlib.Core.Path.{_≡_};
+ghost use mathlib.Core.Bool.{true};
 ghost use mathlib.Core.List.{List, []};
-ghost use Prim.Native.Nat.{ℕ, _≤_};
+ghost use Prim.Native.Nat.{ℕ};
 ghost use lib.IntN.{ℤ};
 ghost use lib.ListN.{length};
-ghost use Rattle.definition.specs.Units.{Lent};
-ghost use Rattle.operations.specs.Operations.{operationOf};
-ghost use Rattle.refusals.specs.Given.{givenOf};
+ghost use Rattle.definition.specs.Units.{chromatic, Lent};
 ghost use Rattle.units.specs.Lent.{unitLent, chromaLent};
-ghost use Rattle.units.specs.Windows.{RowsLie};
-ghost use Rattle.units.specs.OneRow.{LumaLie};
-ghost use Rattle.units.specs.Openings.{numbersY, noNumbers, noState, openRings, openState, Begun};
+ghost use Rattle.units.specs.Openings.{givenY, noneGiven, noState, openRings, openState, Begun};
+ghost use Rattle.units.specs.Windows.{RowsLie, LumaLie};
 use crate::Opened;
 use crate::State;
-use refusals::Numbers;
+use definition::BLOCK_COLUMN_LIMIT;
+use definition::Given;
+use definition::INDEX_COUNT;
+use definition::Operation;
+use definition::STATE_BYTES;
+use operations::is_chroma;
+use operations::number_of;
 
-fn no_numbers() -> Numbers
-    ensures { λ r. ⌜ r ≡ noNumbers ⌝ }
+fn none_given() -> Given
+    ensures { λ r. ⌜ r ≡ noneGiven ⌝ }
 {
-    numbers(0, 0, 0, 0, 0, 0, 0)
+    given_y(0, 0, 0, 0, 0, 0, 0)
 }
 
 // The state of zeros.
@@ -27,19 +31,19 @@ pub fn none() -> State
 {
     State {
         op: 0,
-        numbers: no_numbers(),
+        given: none_given(),
         done: 0,
         next: 0,
-        classes: [0u8; 16],
-        indices: [0usize; 10],
-        rows: [0u8; 1080],
+        classes: [0u8; BLOCK_COLUMN_LIMIT],
+        indices: [0usize; INDEX_COUNT],
+        rows: [0u8; STATE_BYTES],
     }
 }
 
 // The padded rows of a unit that is not declined, before its first row.
 fn first_rows<'a>(
-    op: usize,
-    g: Numbers,
+    op: Operation,
+    g: Given,
     p: &[u8],
     left: &[u8],
     top: &[u8],
@@ -47,26 +51,24 @@ fn first_rows<'a>(
     luma: &'a [u8],
     luma_top: &'a [u8],
     luma_bottom: &'a [u8],
-) -> [u8; 1080]
-    requires { ⌜ (1 ≤ op) × (op ≤ 4) ⌝ }
-    requires { ⌜ RowsLie (operationOf op) (givenOf g) (length (now p)) (length (now left)) (length (now top)) (length (now bottom)) ⌝ }
-    requires { ⌜ (op ≡ 4 → LumaLie (givenOf g) (length (now luma)) (length (now «luma_top»)) (length (now «luma_bottom»))) ⌝ }
-    ensures { λ r. ⌜ r ≡ openRings (operationOf op) g (chromaLent (now (left .entry)) (now (top .entry)) (now (bottom .entry)) [] (now (luma .entry)) (now («luma_top» .entry)) (now («luma_bottom» .entry)) []) (now (p .entry)) .slots ⌝ }
+) -> [u8; STATE_BYTES]
+    requires { ⌜ RowsLie op g (length (now p)) (length (now left)) (length (now top)) (length (now bottom)) ⌝ }
+    requires { ⌜ (chromatic op ≡ true → LumaLie g (length (now luma)) (length (now «luma_top»)) (length (now «luma_bottom»))) ⌝ }
+    ensures { λ r. ⌜ r ≡ openRings op g (chromaLent (now (left .entry)) (now (top .entry)) (now (bottom .entry)) [] (now (luma .entry)) (now («luma_top» .entry)) (now («luma_bottom» .entry)) []) (now (p .entry)) .slots ⌝ }
 {
     let mut rows = crate::rows::open_rows(op, g, p, left, top, bottom);
-    if op != 4 {
+    if is_chroma(op) {
+        crate::luma_rows::open_luma_rows(g, luma, luma_top, luma_bottom, &mut rows);
         return rows;
     }
-    crate::luma_rows::open_luma_rows(g, luma, luma_top, luma_bottom, &mut rows);
     rows
 }
 
 // .. and their indices.
-fn first_indices(op: usize, g: Numbers) -> [usize; 10]
-    requires { ⌜ (1 ≤ op) × (op ≤ 4) ⌝ }
-    ensures { λ r. ⌜ ((l : Lent) (p : List ℕ) → r ≡ openRings (operationOf op) g l p .idx) ⌝ }
+fn first_indices(op: Operation, g: Given) -> [usize; INDEX_COUNT]
+    ensures { λ r. ⌜ ((l : Lent) (p : List ℕ) → r ≡ openRings op g l p .idx) ⌝ }
 {
-    if op == 4 {
+    if is_chroma(op) {
         return crate::chroma::open_indices(g);
     }
     crate::rows::open_indices(op, g)
@@ -74,8 +76,8 @@ fn first_indices(op: usize, g: Numbers) -> [usize; 10]
 
 // The state of a unit that is not declined, before its first row.
 fn first_state<'a>(
-    op: usize,
-    g: Numbers,
+    op: Operation,
+    g: Given,
     p: &[u8],
     left: &[u8],
     top: &[u8],
@@ -84,20 +86,19 @@ fn first_state<'a>(
     luma_top: &'a [u8],
     luma_bottom: &'a [u8],
 ) -> State
-    requires { ⌜ (1 ≤ op) × (op ≤ 4) ⌝ }
-    requires { ⌜ RowsLie (operationOf op) (givenOf g) (length (now p)) (length (now left)) (length (now top)) (length (now bottom)) ⌝ }
-    requires { ⌜ (op ≡ 4 → LumaLie (givenOf g) (length (now luma)) (length (now «luma_top»)) (length (now «luma_bottom»))) ⌝ }
-    ensures { λ r. ⌜ r ≡ openState (operationOf op) g (chromaLent (now (left .entry)) (now (top .entry)) (now (bottom .entry)) [] (now (luma .entry)) (now («luma_top» .entry)) (now («luma_bottom» .entry)) []) (now (p .entry)) ⌝ }
+    requires { ⌜ RowsLie op g (length (now p)) (length (now left)) (length (now top)) (length (now bottom)) ⌝ }
+    requires { ⌜ (chromatic op ≡ true → LumaLie g (length (now luma)) (length (now «luma_top»)) (length (now «luma_bottom»))) ⌝ }
+    ensures { λ r. ⌜ r ≡ openState op g (chromaLent (now (left .entry)) (now (top .entry)) (now (bottom .entry)) [] (now (luma .entry)) (now («luma_top» .entry)) (now («luma_bottom» .entry)) []) (now (p .entry)) ⌝ }
 {
     let e = operations::border_of(op);
     let indices = first_indices(op, g);
     let rows = first_rows(op, g, p, left, top, bottom, luma, luma_top, luma_bottom);
     State {
-        op,
-        numbers: g,
+        op: number_of(op),
+        given: g,
         done: 0,
         next: e + e,
-        classes: [0u8; 16],
+        classes: [0u8; BLOCK_COLUMN_LIMIT],
         indices,
         rows,
     }
@@ -105,8 +106,8 @@ fn first_state<'a>(
 
 // An opening with these numbers.
 pub fn open<'a>(
-    op: usize,
-    g: Numbers,
+    op: Operation,
+    g: Given,
     p: &[u8],
     left: &[u8],
     top: &[u8],
@@ -121,8 +122,7 @@ pub fn open<'a>(
     luma_bottom: &'a [u8],
     skip: &[u16],
 ) -> Opened
-    requires { ⌜ (1 ≤ op) × (op ≤ 4) ⌝ }
-    ensures { λ r. ⌜ ((q : ℤ) → Begun (operationOf op) r g (unitLent (operationOf op) (now (left .entry)) (now (top .entry)) (now (bottom .entry)) (now (filters .entry)) (now (wide .entry)) (now (map .entry)) (now (subclass .entry)) (now (noskip .entry)) q (now (luma .entry)) (now («luma_top» .entry)) (now («luma_bottom» .entry)) (now (skip .entry))) (now (p .entry))) ⌝ }
+    ensures { λ r. ⌜ ((q : ℤ) → Begun op r g (unitLent op (now (left .entry)) (now (top .entry)) (now (bottom .entry)) (now (filters .entry)) (now (wide .entry)) (now (map .entry)) (now (subclass .entry)) (now (noskip .entry)) q (now (luma .entry)) (now («luma_top» .entry)) (now («luma_bottom» .entry)) (now (skip .entry))) (now (p .entry))) ⌝ }
 {
     let z = crate::advance::sizes(
         op,
@@ -154,7 +154,7 @@ pub fn open<'a>(
 }
 
 // The numbers that a unit without luma rows is opened with: what it does not use is 0.
-pub fn numbers(
+pub fn given_y(
     w: usize,
     h: usize,
     edges: usize,
@@ -162,10 +162,10 @@ pub fn numbers(
     off: usize,
     top_off: usize,
     bottom_off: usize,
-) -> Numbers
-    ensures { λ r. ⌜ r ≡ numbersY w h edges stride off «top_off» «bottom_off» ⌝ }
+) -> Given
+    ensures { λ r. ⌜ r ≡ givenY w h edges stride off «top_off» «bottom_off» ⌝ }
 {
-    Numbers {
+    Given {
         w,
         h,
         edges,

@@ -1,16 +1,25 @@
 // One row restored in stretches: each stretch of unmasked blocks, of one class where there are classes, is one filter run into its part of the plane.
 ghost use mathlib.Core.Path.{_≡_};
+ghost use mathlib.Core.Bool.{cond};
 ghost use Prim.Native.Nat.{ℕ, _+_, _*_, _-_, _/_, _%_, _≤_, _<_};
 ghost use lib.IntN.{pos};
-ghost use lib.ListN.{length, getD};
+ghost use lib.ListN.{length, getD, replicate};
 ghost use lib.Seq.{sets};
-ghost use Rattle.definition.specs.Rows.{tab};
+ghost use Rattle.definition.specs.Blocks.{side};
+ghost use Rattle.definition.specs.Limits.{widthLimit, blockColumnLimit};
+ghost use Rattle.definition.specs.Rows.{tab, indexCount};
+ghost use Rattle.definition.specs.Sample.{limit8};
+ghost use Rattle.definition.specs.Units.{classed};
 ghost use Rattle.definition.specs.Refusals.{indexLimit};
-ghost use Rattle.operations.specs.Operations.{operationOf};
-ghost use Rattle.units.specs.Lent.{filtersOf};
-ghost use Rattle.units.specs.Cells.{cellOf};
-ghost use Rattle.units.specs.Unmasked.{lumaOpen, pretrainedOpen, chromaOpen, openOf, setStart, setFor, HasSet};
 ghost use Rattle.filter.specs.Runs.{coefficients};
+ghost use Rattle.units.specs.Lent.{filtersOf};
+ghost use Rattle.units.specs.Cells.{lumaUnmasked, pretrainedUnmasked, chromaUnmasked, unmasked, setStart, setFor, HasSet, cellOf};
+use definition::BLOCK_COLUMN_LIMIT;
+use definition::INDEX_COUNT;
+use definition::Operation;
+use definition::ROW_ORIGIN;
+use definition::SIDE;
+use definition::STATE_BYTES;
 
 // Samples x0 .. x1 - 1 of a luma row, one filter run.
 fn run_y(
@@ -18,17 +27,17 @@ fn run_y(
     at: usize,
     x0: usize,
     x1: usize,
-    rows: &[u8; 1080],
-    indices: &[usize; 10],
+    rows: &[u8; STATE_BYTES],
+    indices: &[usize; INDEX_COUNT],
     filter: &[i8; 16],
 )
-    requires { ⌜ (x0 ≤ x1) × (x1 ≤ 64) × (at + x1 ≤ length (now p)) ⌝ }
-    requires { ⌜ ((j : ℕ) → j < 10 → getD (now indices) j 0 ≤ 9) ⌝ }
-    ensures { λ _. ⌜ now (p .exit) ≡ sets (now (p .entry)) (at + x0) (tab (x1 - x0) (λ i. lumaOpen (now (rows .entry)) (now (indices .entry)) (coefficients (now (filter .entry))) (x0 + i))) ⌝ }
+    requires { ⌜ (x0 ≤ x1) × (x1 ≤ widthLimit) × (at + x1 ≤ length (now p)) ⌝ }
+    requires { ⌜ ((j : ℕ) → j < indexCount → getD (now indices) j 0 ≤ 9) ⌝ }
+    ensures { λ _. ⌜ now (p .exit) ≡ sets (now (p .entry)) (at + x0) (tab (x1 - x0) (λ i. lumaUnmasked limit8 (now (rows .entry)) (now (indices .entry)) (coefficients (now (filter .entry))) (x0 + i))) ⌝ }
 {
     let a = at + x0;
     let b = at + x1;
-    filter::ns_wiener_fir_run(&mut p[a..b], rows, indices, 6 + x0, filter, b - a);
+    filter::ns_wiener_fir_run(&mut p[a..b], rows, indices, ROW_ORIGIN + x0, filter, b - a);
 }
 
 // The same under a pretrained set.
@@ -37,17 +46,17 @@ fn run_p(
     at: usize,
     x0: usize,
     x1: usize,
-    rows: &[u8; 1080],
-    indices: &[usize; 10],
+    rows: &[u8; STATE_BYTES],
+    indices: &[usize; INDEX_COUNT],
     filter: &[i16; 13],
 )
-    requires { ⌜ (x0 ≤ x1) × (x1 ≤ 64) × (at + x1 ≤ length (now p)) ⌝ }
-    requires { ⌜ ((j : ℕ) → j < 10 → getD (now indices) j 0 ≤ 9) ⌝ }
-    ensures { λ _. ⌜ now (p .exit) ≡ sets (now (p .entry)) (at + x0) (tab (x1 - x0) (λ i. pretrainedOpen (now (rows .entry)) (now (indices .entry)) (coefficients (now (filter .entry))) (x0 + i))) ⌝ }
+    requires { ⌜ (x0 ≤ x1) × (x1 ≤ widthLimit) × (at + x1 ≤ length (now p)) ⌝ }
+    requires { ⌜ ((j : ℕ) → j < indexCount → getD (now indices) j 0 ≤ 9) ⌝ }
+    ensures { λ _. ⌜ now (p .exit) ≡ sets (now (p .entry)) (at + x0) (tab (x1 - x0) (λ i. pretrainedUnmasked limit8 (now (rows .entry)) (now (indices .entry)) (coefficients (now (filter .entry))) (x0 + i))) ⌝ }
 {
     let a = at + x0;
     let b = at + x1;
-    filter::pc_wiener_fir_run(&mut p[a..b], rows, indices, 6 + x0, filter, b - a);
+    filter::pc_wiener_fir_run(&mut p[a..b], rows, indices, ROW_ORIGIN + x0, filter, b - a);
 }
 
 // The same of a chroma row.
@@ -56,14 +65,14 @@ fn run_c(
     at: usize,
     x0: usize,
     x1: usize,
-    rows: &[u8; 1080],
-    indices: &[usize; 10],
+    rows: &[u8; STATE_BYTES],
+    indices: &[usize; INDEX_COUNT],
     step: usize,
     filter: &[i8; 18],
 )
-    requires { ⌜ (x0 ≤ x1) × (x1 ≤ 64) × (at + x1 ≤ length (now p)) × (step ≤ 2) ⌝ }
-    requires { ⌜ ((j : ℕ) → j < 10 → getD (now indices) j 0 ≤ 4) ⌝ }
-    ensures { λ _. ⌜ now (p .exit) ≡ sets (now (p .entry)) (at + x0) (tab (x1 - x0) (λ i. chromaOpen (now (rows .entry)) (now (indices .entry)) step (coefficients (now (filter .entry))) (x0 + i))) ⌝ }
+    requires { ⌜ (x0 ≤ x1) × (x1 ≤ widthLimit) × (at + x1 ≤ length (now p)) × (step ≤ 2) ⌝ }
+    requires { ⌜ ((j : ℕ) → j < indexCount → getD (now indices) j 0 ≤ 4) ⌝ }
+    ensures { λ _. ⌜ now (p .exit) ≡ sets (now (p .entry)) (at + x0) (tab (x1 - x0) (λ i. chromaUnmasked limit8 (now (rows .entry)) (now (indices .entry)) step (coefficients (now (filter .entry))) (x0 + i))) ⌝ }
 {
     let a = at + x0;
     let b = at + x1;
@@ -71,8 +80,8 @@ fn run_c(
         &mut p[a..b],
         rows,
         indices,
-        6 + x0,
-        6 + x0 * step,
+        ROW_ORIGIN + x0,
+        ROW_ORIGIN + x0 * step,
         step,
         filter,
         b - a,
@@ -120,75 +129,91 @@ fn eighteen(filters: &[i8], at: usize) -> [i8; 18]
 }
 
 // Where a class's set begins; a unit without classes has one.
-fn set_start(op: usize, class: u8) -> usize
-    ensures { λ r. ⌜ r ≡ setStart (operationOf op) class ⌝ }
+fn set_start(op: Operation, class: u8) -> usize
+    ensures { λ r. ⌜ r ≡ setStart op class ⌝ }
 {
     match op {
-        2 => 18 * (class as usize),
-        3 => 13 * (class as usize),
-        _ => 0,
+        Operation::Luma => 0,
+        Operation::User => 18 * bounds::wide(class),
+        Operation::Pretrained => 13 * bounds::wide(class),
+        Operation::Chroma => 0,
     }
 }
 
 // Samples x0 .. x1 - 1 of a row, of one class: one filter run. Pretrained sets are of 16 bits, all others of 8; step is the luma columns to a chroma column.
 fn run(
-    op: usize,
+    op: Operation,
     p: &mut [u8],
     at: usize,
     x0: usize,
     x1: usize,
-    rows: &[u8; 1080],
-    indices: &[usize; 10],
+    rows: &[u8; STATE_BYTES],
+    indices: &[usize; INDEX_COUNT],
     step: usize,
     filters: &[i8],
     wide: &[i16],
     class: u8,
 )
-    requires { ⌜ (1 ≤ op) × (op ≤ 4) ⌝ }
-    requires { ⌜ (x0 ≤ x1) × (x1 ≤ 64) × (at + x1 ≤ length (now p)) × (step ≤ 2) ⌝ }
-    requires { ⌜ ((j : ℕ) → j < 10 → getD (now indices) j 0 ≤ indexLimit (operationOf op)) ⌝ }
-    requires { ⌜ HasSet (operationOf op) (length (filtersOf (operationOf op) (now filters) (now wide))) class ⌝ }
-    ensures { λ _. ⌜ now (p .exit) ≡ sets (now (p .entry)) (at + x0) (tab (x1 - x0) (λ i. openOf (operationOf op) (now (rows .entry)) (now (indices .entry)) step (setFor (operationOf op) (filtersOf (operationOf op) (now (filters .entry)) (now (wide .entry))) class) (x0 + i))) ⌝ }
+    requires { ⌜ (x0 ≤ x1) × (x1 ≤ widthLimit) × (at + x1 ≤ length (now p)) × (step ≤ 2) ⌝ }
+    requires { ⌜ ((j : ℕ) → j < indexCount → getD (now indices) j 0 ≤ indexLimit op) ⌝ }
+    requires { ⌜ HasSet op (length (filtersOf op (now filters) (now wide))) class ⌝ }
+    ensures { λ _. ⌜ now (p .exit) ≡ sets (now (p .entry)) (at + x0) (tab (x1 - x0) (λ i. unmasked limit8 op (now (rows .entry)) (now (indices .entry)) step (setFor op (filtersOf op (now (filters .entry)) (now (wide .entry))) class) (x0 + i))) ⌝ }
 {
     let from = set_start(op, class);
-    if op == 3 {
-        let set = thirteen(wide, from);
-        run_p(p, at, x0, x1, rows, indices, &set);
-        return;
+    match op {
+        Operation::Luma => {
+            let set = sixteen(filters, from);
+            run_y(p, at, x0, x1, rows, indices, &set);
+        }
+        Operation::User => {
+            let set = sixteen(filters, from);
+            run_y(p, at, x0, x1, rows, indices, &set);
+        }
+        Operation::Pretrained => {
+            let set = thirteen(wide, from);
+            run_p(p, at, x0, x1, rows, indices, &set);
+        }
+        Operation::Chroma => {
+            let set = eighteen(filters, from);
+            run_c(p, at, x0, x1, rows, indices, step, &set);
+        }
     }
-    if op == 4 {
-        let set = eighteen(filters, from);
-        run_c(p, at, x0, x1, rows, indices, step, &set);
-        return;
-    }
-    let set = sixteen(filters, from);
-    run_y(p, at, x0, x1, rows, indices, &set);
 }
 
-// One row of w samples, from byte `at` of the plane on. Where there are no classes, those that are kept from block to block may split a stretch, and change no sample.
+// The classes that stretches are told by: without classes all blocks are of one, whatever a state kept.
+fn told_apart(op: Operation, classes: &[u8; BLOCK_COLUMN_LIMIT]) -> [u8; BLOCK_COLUMN_LIMIT]
+    ensures { λ r. ⌜ r ≡ cond (classed op) (now (classes .entry)) (replicate blockColumnLimit 0) ⌝ }
+{
+    if operations::is_classed(op) {
+        return *classes;
+    }
+    [0u8; BLOCK_COLUMN_LIMIT]
+}
+
+// One row of w samples, from byte `at` of the plane on.
 pub fn restore(
-    op: usize,
+    op: Operation,
     p: &mut [u8],
     at: usize,
     w: usize,
-    rows: &[u8; 1080],
-    indices: &[usize; 10],
+    rows: &[u8; STATE_BYTES],
+    indices: &[usize; INDEX_COUNT],
     step: usize,
     filters: &[i8],
     wide: &[i16],
-    classes: &[u8; 16],
+    classes: &[u8; BLOCK_COLUMN_LIMIT],
     mask: u16,
 )
-    requires { ⌜ (1 ≤ op) × (op ≤ 4) ⌝ }
-    requires { ⌜ (w % 4 ≡ 0) × (w ≤ 64) × (at + w ≤ length (now p)) × (step ≤ 2) ⌝ }
-    requires { ⌜ ((j : ℕ) → j < 10 → getD (now indices) j 0 ≤ indexLimit (operationOf op)) ⌝ }
-    requires { ⌜ ((j : ℕ) → j < 16 → HasSet (operationOf op) (length (filtersOf (operationOf op) (now filters) (now wide))) (getD (now classes) j 0)) ⌝ }
-    ensures { λ _. ⌜ now (p .exit) ≡ sets (now (p .entry)) at (tab w (λ x. cellOf (operationOf op) (now (rows .entry)) (now (indices .entry)) step (filtersOf (operationOf op) (now (filters .entry)) (now (wide .entry))) (now (classes .entry)) mask (getD (now (p .entry)) (at + x) 0) x)) ⌝ }
+    requires { ⌜ (w % side ≡ 0) × (w ≤ widthLimit) × (at + w ≤ length (now p)) × (step ≤ 2) ⌝ }
+    requires { ⌜ ((j : ℕ) → j < indexCount → getD (now indices) j 0 ≤ indexLimit op) ⌝ }
+    requires { ⌜ ((j : ℕ) → j < blockColumnLimit → HasSet op (length (filtersOf op (now filters) (now wide))) (getD (now classes) j 0)) ⌝ }
+    ensures { λ _. ⌜ now (p .exit) ≡ sets (now (p .entry)) at (tab w (λ x. cellOf limit8 op (now (rows .entry)) (now (indices .entry)) step (filtersOf op (now (filters .entry)) (now (wide .entry))) (now (classes .entry)) mask (getD (now (p .entry)) (at + x) 0) x)) ⌝ }
 {
-    let bw = w / 4;
+    let told = told_apart(op, classes);
+    let bw = w / SIDE;
     let mut bx = 0;
     while bx < bw {
-        let s = blocks::class_stretch(mask, classes, bx, bw);
+        let s = blocks::class_stretch(mask, &told, bx, bw);
         let start = s.start;
         let end = s.end;
         if start < bw {
@@ -196,14 +221,14 @@ pub fn restore(
                 op,
                 p,
                 at,
-                start * 4,
-                end * 4,
+                start * SIDE,
+                end * SIDE,
                 rows,
                 indices,
                 step,
                 filters,
                 wide,
-                classes[start],
+                told[start],
             );
             bx = end;
         } else {

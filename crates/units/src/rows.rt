@@ -1,50 +1,55 @@
 // The ring of padded rows: a row is padded into a slot, and ten indices say which slot holds which row of the window.
 ghost use mathlib.Core.Path.{_≡_};
-ghost use Prim.Native.Nat.{_+_, _*_, _-_, _≤_, _<_, max};
+ghost use mathlib.Core.List.{[], _∷_, _++_};
+ghost use Prim.Native.Nat.{_+_, _*_, _-_, _≤_, _<_};
 ghost use lib.ListN.{length, replicate};
 ghost use lib.Seq.{sets};
 ghost use lib.IntN.{pos};
-ghost use Rattle.definition.specs.Units.{border};
+ghost use Rattle.definition.specs.Limits.{heightLimit};
+ghost use Rattle.definition.specs.Rows.{tab, rowBytes, rowOrigin, stateBytes};
 ghost use Rattle.definition.specs.Padding.{rowAt, after};
+ghost use Rattle.definition.specs.Units.{border};
 ghost use Rattle.padding.specs.Padded.{backupStatus, lpfStatus, paddedRow};
-ghost use mathlib.Core.List.{[], _∷_, _++_};
-ghost use Rattle.definition.specs.Rows.{tab};
 ghost use Rattle.history.specs.Ring.{wrap, slid};
 ghost use Rattle.model.specs.Rows.{padRow, firstRow, belowRows, own};
 ghost use Rattle.model.specs.Opening.{filled, openIndex};
-ghost use Rattle.operations.specs.Operations.{operationOf};
-ghost use Rattle.refusals.specs.Given.{givenOf};
 ghost use Rattle.units.specs.Lent.{rowsLent};
-ghost use Rattle.units.specs.Windows.{RowsLie, ring, Fetched};
+ghost use Rattle.units.specs.Windows.{PlaneLies, BottomLies, RowsLie};
+ghost use Rattle.units.specs.Step.{ring, Fetched};
+use bounds::is_set;
+use definition::Given;
+use definition::INDEX_COUNT;
+use definition::Operation;
+use definition::ROW_BYTES;
+use definition::ROW_ORIGIN;
+use definition::STATE_BYTES;
 use operations::border_of;
-use operations::is_set;
 use operations::top_rows;
-use refusals::Numbers;
 
 // Rows below the unit that are padded anew: the plane's own, or saved ones.
-fn rows_below(op: usize, edges: usize) -> usize
-    ensures { λ r. ⌜ r ≡ belowRows (operationOf op) edges ⌝ }
+fn rows_below(op: Operation, edges: usize) -> usize
+    ensures { λ r. ⌜ r ≡ belowRows op edges ⌝ }
 {
-    if is_set(edges, 32) {
+    if is_set(edges, 5) {
         return border_of(op);
     }
-    if is_set(edges, 8) {
+    if is_set(edges, 3) {
         return 2;
     }
     0
 }
 
 // The first row that is padded anew, counted from e rows above the unit.
-pub fn first_row(op: usize, g: Numbers) -> usize
-    ensures { λ r. ⌜ r ≡ firstRow (operationOf op) (givenOf g) ⌝ }
+pub fn first_row(op: Operation, g: Given) -> usize
+    ensures { λ r. ⌜ r ≡ firstRow op g ⌝ }
 {
     border_of(op) - top_rows(op, g.edges)
 }
 
 // Whether row r is padded anew, and does not repeat the one before it; r counted as above.
-pub fn is_own(op: usize, g: Numbers, r: usize) -> bool
-    requires { ⌜ g .h ≤ 64 ⌝ }
-    ensures { λ b. ⌜ b ≡ own (operationOf op) (givenOf g) r ⌝ }
+pub fn is_own(op: Operation, g: Given, r: usize) -> bool
+    requires { ⌜ g .h ≤ heightLimit ⌝ }
+    ensures { λ b. ⌜ b ≡ own op g r ⌝ }
 {
     r < g.h + border_of(op) + rows_below(op, g.edges)
 }
@@ -58,38 +63,37 @@ fn own_row(
     at: usize,
     left: &[u8],
     end: usize,
-) -> [u8; 76]
-    requires { ⌜ backupStatus 76 6 (length (now src)) at (length (now left)) end w e edges ≡ 0 ⌝ }
-    ensures { λ row. ⌜ row ≡ sets (replicate 76 0) (6 - e) (paddedRow edges w e (after (now (left .entry)) end (rowAt (now (src .entry)) (pos at)))) ⌝ }
+) -> [u8; ROW_BYTES]
+    requires { ⌜ backupStatus rowBytes rowOrigin (length (now src)) at (length (now left)) end w e edges ≡ 0 ⌝ }
+    ensures { λ row. ⌜ row ≡ sets (replicate rowBytes 0) (rowOrigin - e) (paddedRow edges w e (after (now (left .entry)) end (rowAt (now (src .entry)) (pos at)))) ⌝ }
 {
-    let mut row = [0u8; 76];
-    padding::backup_row_8bpc(&mut row, 6, src, at, left, end, w, e, edges);
+    let mut row = [0u8; ROW_BYTES];
+    padding::backup_row_8bpc(&mut row, ROW_ORIGIN, src, at, left, end, w, e, edges);
     row
 }
 
 // A row with what stands before it, padded.
-fn saved_row(e: usize, w: usize, edges: usize, src: &[u8], at: usize) -> [u8; 76]
-    requires { ⌜ lpfStatus 76 6 (length (now src)) at w e edges ≡ 0 ⌝ }
-    ensures { λ row. ⌜ row ≡ sets (replicate 76 0) (6 - e) (paddedRow edges w e (rowAt (now (src .entry)) (pos at))) ⌝ }
+fn saved_row(e: usize, w: usize, edges: usize, src: &[u8], at: usize) -> [u8; ROW_BYTES]
+    requires { ⌜ lpfStatus rowBytes rowOrigin (length (now src)) at w e edges ≡ 0 ⌝ }
+    ensures { λ row. ⌜ row ≡ sets (replicate rowBytes 0) (rowOrigin - e) (paddedRow edges w e (rowAt (now (src .entry)) (pos at))) ⌝ }
 {
-    let mut row = [0u8; 76];
-    padding::backup_row_lpf_8bpc(&mut row, 6, src, at, w, e, edges);
+    let mut row = [0u8; ROW_BYTES];
+    padding::backup_row_lpf_8bpc(&mut row, ROW_ORIGIN, src, at, w, e, edges);
     row
 }
 
-// Row y of the unit, or, below it, what stands for it. The saved rows above are named by the contract alone.
+// Row y of the unit, or, below it, what stands for it.
 fn lower_row(
-    op: usize,
-    g: Numbers,
+    op: Operation,
+    g: Given,
     plane: &[u8],
     left: &[u8],
-    top: &[u8],
     bottom: &[u8],
     y: usize,
-) -> [u8; 76]
-    requires { ⌜ RowsLie (operationOf op) (givenOf g) (length (now plane)) (length (now left)) (length (now top)) (length (now bottom)) ⌝ }
-    requires { ⌜ y < g .h + border (operationOf op) ⌝ }
-    ensures { λ row. ⌜ row ≡ padRow (operationOf op) (givenOf g) (rowsLent (now (left .entry)) (now (top .entry)) (now (bottom .entry))) (now (plane .entry)) (y + border (operationOf op)) ⌝ }
+) -> [u8; ROW_BYTES]
+    requires { ⌜ PlaneLies op g (length (now plane)) (length (now left)) × BottomLies op g (length (now bottom)) ⌝ }
+    requires { ⌜ y < g .h + border op ⌝ }
+    ensures { λ row. ⌜ row ≡ padRow op g (rowsLent (now (left .entry)) [] (now (bottom .entry))) (now (plane .entry)) (y + border op) ⌝ }
 {
     let e = border_of(op);
     if y < g.h {
@@ -103,10 +107,10 @@ fn lower_row(
             6 * y + 6,
         );
     }
-    if is_set(g.edges, 32) {
+    if is_set(g.edges, 5) {
         return saved_row(e, g.w, g.edges, plane, g.off + y * g.stride);
     }
-    if is_set(g.edges, 8) {
+    if is_set(g.edges, 3) {
         let n = bounds::least(y - g.h, 1);
         return saved_row(e, g.w, g.edges, bottom, g.bottom_off + n * g.stride);
     }
@@ -124,34 +128,34 @@ fn lower_row(
 
 // Row r - e of the unit, e the border, padded: from the plane with the left list, from the plane below the unit, or from a saved border.
 pub fn padded_row(
-    op: usize,
-    g: Numbers,
+    op: Operation,
+    g: Given,
     plane: &[u8],
     left: &[u8],
     top: &[u8],
     bottom: &[u8],
     r: usize,
-) -> [u8; 76]
-    requires { ⌜ RowsLie (operationOf op) (givenOf g) (length (now plane)) (length (now left)) (length (now top)) (length (now bottom)) ⌝ }
-    requires { ⌜ (firstRow (operationOf op) (givenOf g) ≤ r) × (r < g .h + border (operationOf op) + border (operationOf op)) ⌝ }
-    ensures { λ row. ⌜ row ≡ padRow (operationOf op) (givenOf g) (rowsLent (now (left .entry)) (now (top .entry)) (now (bottom .entry))) (now (plane .entry)) r ⌝ }
+) -> [u8; ROW_BYTES]
+    requires { ⌜ RowsLie op g (length (now plane)) (length (now left)) (length (now top)) (length (now bottom)) ⌝ }
+    requires { ⌜ (firstRow op g ≤ r) × (r < g .h + border op + border op) ⌝ }
+    ensures { λ row. ⌜ row ≡ padRow op g (rowsLent (now (left .entry)) (now (top .entry)) (now (bottom .entry))) (now (plane .entry)) r ⌝ }
 {
     let e = border_of(op);
     if r < e {
         let n = r - first_row(op, g);
         return saved_row(e, g.w, g.edges, top, g.top_off + n * g.stride);
     }
-    lower_row(op, g, plane, left, top, bottom, r - e)
+    lower_row(op, g, plane, left, bottom, r - e)
 }
 
 // A row into its slot.
-pub fn put_row(rows: &mut [u8; 1080], slot: usize, row: [u8; 76])
+pub fn put_row(rows: &mut [u8; STATE_BYTES], slot: usize, row: [u8; ROW_BYTES])
     requires { ⌜ slot ≤ 9 ⌝ }
-    ensures { λ _. ⌜ now (rows .exit) ≡ sets (now (rows .entry)) (slot * 76) row ⌝ }
+    ensures { λ _. ⌜ now (rows .exit) ≡ sets (now (rows .entry)) (slot * rowBytes) row ⌝ }
 {
-    let base = slot * 76;
+    let base = slot * ROW_BYTES;
     let mut j = 0;
-    while j < 76 {
+    while j < ROW_BYTES {
         rows[base + j] = row[j];
         j += 1;
     }
@@ -169,7 +173,7 @@ pub fn next_slot(slot: usize, n: usize) -> usize
 }
 
 // Each of the first m indices takes the value of the one behind it.
-pub fn slide(indices: &mut [usize; 10], m: usize)
+pub fn slide(indices: &mut [usize; INDEX_COUNT], m: usize)
     requires { ⌜ m ≤ 9 ⌝ }
     ensures { λ _. ⌜ now (indices .exit) ≡ slid m (now (indices .entry)) ⌝ }
 {
@@ -183,19 +187,19 @@ pub fn slide(indices: &mut [usize; 10], m: usize)
 
 // The rows that an opening pads: those before the first that is padded anew stay 0.
 pub fn open_rows(
-    op: usize,
-    g: Numbers,
+    op: Operation,
+    g: Given,
     plane: &[u8],
     left: &[u8],
     top: &[u8],
     bottom: &[u8],
-) -> [u8; 1080]
-    requires { ⌜ RowsLie (operationOf op) (givenOf g) (length (now plane)) (length (now left)) (length (now top)) (length (now bottom)) ⌝ }
-    ensures { λ rows. ⌜ rows ≡ filled (operationOf op) (givenOf g) (rowsLent (now (left .entry)) (now (top .entry)) (now (bottom .entry))) (now (plane .entry)) (replicate 1080 0) (border (operationOf op) + border (operationOf op)) ⌝ }
+) -> [u8; STATE_BYTES]
+    requires { ⌜ RowsLie op g (length (now plane)) (length (now left)) (length (now top)) (length (now bottom)) ⌝ }
+    ensures { λ rows. ⌜ rows ≡ filled op g (rowsLent (now (left .entry)) (now (top .entry)) (now (bottom .entry))) (now (plane .entry)) (replicate stateBytes 0) (border op + border op) ⌝ }
 {
     let e = border_of(op);
     let m = e + e;
-    let mut rows = [0u8; 1080];
+    let mut rows = [0u8; STATE_BYTES];
     let mut n = first_row(op, g);
     while n < m {
         let row = padded_row(op, g, plane, left, top, bottom, n);
@@ -205,29 +209,20 @@ pub fn open_rows(
     rows
 }
 
-pub fn larger(a: usize, b: usize) -> usize
-    ensures { λ r. ⌜ r ≡ max a b ⌝ }
-{
-    if a < b {
-        return b;
-    }
-    a
-}
-
 // The indices that an opening of a luma or classed unit hands out.
-pub fn open_indices(op: usize, g: Numbers) -> [usize; 10]
-    ensures { λ r. ⌜ r ≡ tab 8 (openIndex (operationOf op) (givenOf g)) ++ (0 ∷ 0 ∷ []) ⌝ }
+pub fn open_indices(op: Operation, g: Given) -> [usize; INDEX_COUNT]
+    ensures { λ r. ⌜ r ≡ tab 8 (openIndex op g) ++ (0 ∷ 0 ∷ []) ⌝ }
 {
     let f = first_row(op, g);
     [
-        larger(0, f),
-        larger(1, f),
-        larger(2, f),
-        larger(3, f),
-        larger(4, f),
-        larger(5, f),
-        larger(6, f),
-        larger(7, f),
+        bounds::larger(0, f),
+        bounds::larger(1, f),
+        bounds::larger(2, f),
+        bounds::larger(3, f),
+        bounds::larger(4, f),
+        bounds::larger(5, f),
+        bounds::larger(6, f),
+        bounds::larger(7, f),
         0,
         0,
     ]
@@ -235,20 +230,20 @@ pub fn open_indices(op: usize, g: Numbers) -> [usize; 10]
 
 // The newest row of the window, the m-th where m is twice the border: into the next slot, or the row before it again. The next slot is handed back.
 pub fn fetch_row(
-    op: usize,
-    g: Numbers,
+    op: Operation,
+    g: Given,
     done: usize,
     plane: &[u8],
     left: &[u8],
     top: &[u8],
     bottom: &[u8],
-    rows: &mut [u8; 1080],
-    indices: &mut [usize; 10],
+    rows: &mut [u8; STATE_BYTES],
+    indices: &mut [usize; INDEX_COUNT],
     next: usize,
 ) -> usize
-    requires { ⌜ RowsLie (operationOf op) (givenOf g) (length (now plane)) (length (now left)) (length (now top)) (length (now bottom)) ⌝ }
-    requires { ⌜ (done < g .h) × (next ≤ border (operationOf op) + border (operationOf op)) ⌝ }
-    ensures { λ r. ⌜ Fetched (operationOf op) (givenOf g) (rowsLent (now (left .entry)) (now (top .entry)) (now (bottom .entry))) (now (plane .entry)) done (ring (now (rows .entry)) (now (indices .entry)) next) (ring (now (rows .exit)) (now (indices .exit)) r) ⌝ }
+    requires { ⌜ RowsLie op g (length (now plane)) (length (now left)) (length (now top)) (length (now bottom)) ⌝ }
+    requires { ⌜ (done < g .h) × (next ≤ border op + border op) ⌝ }
+    ensures { λ r. ⌜ Fetched op g (rowsLent (now (left .entry)) (now (top .entry)) (now (bottom .entry))) (now (plane .entry)) done (ring (now (rows .entry)) (now (indices .entry)) next) (ring (now (rows .exit)) (now (indices .exit)) r) ⌝ }
 {
     let e = border_of(op);
     let m = e + e;

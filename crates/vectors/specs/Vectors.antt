@@ -6,11 +6,14 @@ use mathlib.Core.Path.{_≡_, refl}
 use Prim.Native.Nat.{ℕ, zero, suc, _+_, _*_, _/_, _%_}
 use lib.Dec.{eqb}
 use lib.IntN.{pos, negsuc}
+use Rattle.definition.specs.declared.Operation.{Operation}
+use Rattle.definition.specs.declared.Operation.the-variants.{Luma, User, Pretrained, Chroma}
+use Rattle.definition.specs.declared.Given.{Given}
 use Rattle.definition.specs.Numbers.{sumZ, sumN}
 use Rattle.definition.specs.Rows.{tab}
 use Rattle.definition.specs.Sample.{rounded}
 use Rattle.definition.specs.ClassIndex.{term, bin, feature, skipSum, indexOf}
-use Rattle.definition.specs.Units.{Operation, luma, user, pretrained, chroma, Given, Lent, sampleAt, lumaAt, classOf, finalSample}
+use Rattle.definition.specs.Units.{Lent, sampleAt, lumaAt, classOf, finalSample}
 
 record Vector : Type 0 where
   op : Operation
@@ -46,21 +49,21 @@ hold (v ∷ vs) = holds v && hold vs
 
 unit0 : Vector
 unit0 = record {
-  op = luma;
+  op = Luma;
   given = record {
     w = 8;
     h = 8;
     edges = 15;
     stride = 13;
-    lumaStride = 1;
+    «luma_stride» = 1;
     off = 4;
-    topOff = 7;
-    bottomOff = 6;
-    lumaOff = 1;
-    lumaTopOff = 2;
-    lumaBottomOff = 8;
-    ssHor = 0;
-    ssVer = 0;
+    «top_off» = 7;
+    «bottom_off» = 6;
+    «luma_off» = 1;
+    «luma_top_off» = 2;
+    «luma_bottom_off» = 8;
+    «ss_hor» = 0;
+    «ss_ver» = 0;
     kind = 0;
   };
   lent = record {
@@ -93,21 +96,21 @@ unit0 = record {
 
 unit1 : Vector
 unit1 = record {
-  op = user;
+  op = User;
   given = record {
     w = 4;
     h = 8;
     edges = 15;
     stride = 9;
-    lumaStride = 5;
+    «luma_stride» = 5;
     off = 2;
-    topOff = 6;
-    bottomOff = 4;
-    lumaOff = 3;
-    lumaTopOff = 5;
-    lumaBottomOff = 5;
-    ssHor = 0;
-    ssVer = 0;
+    «top_off» = 6;
+    «bottom_off» = 4;
+    «luma_off» = 3;
+    «luma_top_off» = 5;
+    «luma_bottom_off» = 5;
+    «ss_hor» = 0;
+    «ss_ver» = 0;
     kind = 0;
   };
   lent = record {
@@ -138,21 +141,21 @@ unit1 = record {
 
 unit2 : Vector
 unit2 = record {
-  op = pretrained;
+  op = Pretrained;
   given = record {
     w = 8;
     h = 8;
     edges = 15;
     stride = 14;
-    lumaStride = 1;
+    «luma_stride» = 1;
     off = 2;
-    topOff = 4;
-    bottomOff = 6;
-    lumaOff = 2;
-    lumaTopOff = 0;
-    lumaBottomOff = 5;
-    ssHor = 0;
-    ssVer = 0;
+    «top_off» = 4;
+    «bottom_off» = 6;
+    «luma_off» = 2;
+    «luma_top_off» = 0;
+    «luma_bottom_off» = 5;
+    «ss_hor» = 0;
+    «ss_ver» = 0;
     kind = 0;
   };
   lent = record {
@@ -184,21 +187,21 @@ unit2 = record {
 
 unit3 : Vector
 unit3 = record {
-  op = chroma;
+  op = Chroma;
   given = record {
     w = 8;
     h = 4;
     edges = 13;
     stride = 8;
-    lumaStride = 1;
+    «luma_stride» = 1;
     off = 2;
-    topOff = 3;
-    bottomOff = 4;
-    lumaOff = 6;
-    lumaTopOff = 5;
-    lumaBottomOff = 7;
-    ssHor = 1;
-    ssVer = 1;
+    «top_off» = 3;
+    «bottom_off» = 4;
+    «luma_off» = 6;
+    «luma_top_off» = 5;
+    «luma_bottom_off» = 7;
+    «ss_hor» = 1;
+    «ss_ver» = 1;
     kind = 0;
   };
   lent = record {
@@ -225,21 +228,21 @@ unit3 = record {
 
 unit4 : Vector
 unit4 = record {
-  op = luma;
+  op = Luma;
   given = record {
     w = 8;
     h = 8;
     edges = 61;
     stride = 11;
-    lumaStride = 8;
+    «luma_stride» = 8;
     off = 4;
-    topOff = 4;
-    bottomOff = 5;
-    lumaOff = 1;
-    lumaTopOff = 0;
-    lumaBottomOff = 6;
-    ssHor = 0;
-    ssVer = 0;
+    «top_off» = 4;
+    «bottom_off» = 5;
+    «luma_off» = 1;
+    «luma_top_off» = 0;
+    «luma_bottom_off» = 6;
+    «ss_hor» = 0;
+    «ss_ver» = 0;
     kind = 0;
   };
   lent = record {
@@ -270,21 +273,21 @@ unit4 = record {
 
 unit5 : Vector
 unit5 = record {
-  op = user;
+  op = User;
   given = record {
     w = 4;
     h = 8;
     edges = 49;
     stride = 5;
-    lumaStride = 2;
+    «luma_stride» = 2;
     off = 4;
-    topOff = 4;
-    bottomOff = 2;
-    lumaOff = 4;
-    lumaTopOff = 3;
-    lumaBottomOff = 0;
-    ssHor = 0;
-    ssVer = 0;
+    «top_off» = 4;
+    «bottom_off» = 2;
+    «luma_off» = 4;
+    «luma_top_off» = 3;
+    «luma_bottom_off» = 0;
+    «ss_hor» = 0;
+    «ss_ver» = 0;
     kind = 0;
   };
   lent = record {
@@ -313,21 +316,21 @@ unit5 = record {
 
 unit6 : Vector
 unit6 = record {
-  op = pretrained;
+  op = Pretrained;
   given = record {
     w = 4;
     h = 4;
     edges = 123;
     stride = 9;
-    lumaStride = 8;
+    «luma_stride» = 8;
     off = 2;
-    topOff = 5;
-    bottomOff = 8;
-    lumaOff = 2;
-    lumaTopOff = 7;
-    lumaBottomOff = 6;
-    ssHor = 0;
-    ssVer = 0;
+    «top_off» = 5;
+    «bottom_off» = 8;
+    «luma_off» = 2;
+    «luma_top_off» = 7;
+    «luma_bottom_off» = 6;
+    «ss_hor» = 0;
+    «ss_ver» = 0;
     kind = 0;
   };
   lent = record {
@@ -354,21 +357,21 @@ unit6 = record {
 
 unit7 : Vector
 unit7 = record {
-  op = chroma;
+  op = Chroma;
   given = record {
     w = 4;
     h = 8;
     edges = 48;
     stride = 4;
-    lumaStride = 9;
+    «luma_stride» = 9;
     off = 3;
-    topOff = 2;
-    bottomOff = 8;
-    lumaOff = 38;
-    lumaTopOff = 6;
-    lumaBottomOff = 3;
-    ssHor = 1;
-    ssVer = 1;
+    «top_off» = 2;
+    «bottom_off» = 8;
+    «luma_off» = 38;
+    «luma_top_off» = 6;
+    «luma_bottom_off» = 3;
+    «ss_hor» = 1;
+    «ss_ver» = 1;
     kind = 1;
   };
   lent = record {
@@ -401,21 +404,21 @@ unit7 = record {
 
 unit8 : Vector
 unit8 = record {
-  op = luma;
+  op = Luma;
   given = record {
     w = 4;
     h = 4;
     edges = 0;
     stride = 7;
-    lumaStride = 6;
+    «luma_stride» = 6;
     off = 4;
-    topOff = 5;
-    bottomOff = 3;
-    lumaOff = 7;
-    lumaTopOff = 4;
-    lumaBottomOff = 1;
-    ssHor = 0;
-    ssVer = 0;
+    «top_off» = 5;
+    «bottom_off» = 3;
+    «luma_off» = 7;
+    «luma_top_off» = 4;
+    «luma_bottom_off» = 1;
+    «ss_hor» = 0;
+    «ss_ver» = 0;
     kind = 0;
   };
   lent = record {
@@ -439,21 +442,21 @@ unit8 = record {
 
 unit9 : Vector
 unit9 = record {
-  op = user;
+  op = User;
   given = record {
     w = 4;
     h = 8;
     edges = 10;
     stride = 8;
-    lumaStride = 8;
+    «luma_stride» = 8;
     off = 2;
-    topOff = 7;
-    bottomOff = 3;
-    lumaOff = 6;
-    lumaTopOff = 5;
-    lumaBottomOff = 0;
-    ssHor = 0;
-    ssVer = 0;
+    «top_off» = 7;
+    «bottom_off» = 3;
+    «luma_off» = 6;
+    «luma_top_off» = 5;
+    «luma_bottom_off» = 0;
+    «ss_hor» = 0;
+    «ss_ver» = 0;
     kind = 0;
   };
   lent = record {
@@ -486,21 +489,21 @@ unit9 = record {
 
 unit10 : Vector
 unit10 = record {
-  op = pretrained;
+  op = Pretrained;
   given = record {
     w = 8;
     h = 4;
     edges = 6;
     stride = 14;
-    lumaStride = 3;
+    «luma_stride» = 3;
     off = 1;
-    topOff = 3;
-    bottomOff = 4;
-    lumaOff = 4;
-    lumaTopOff = 7;
-    lumaBottomOff = 2;
-    ssHor = 0;
-    ssVer = 0;
+    «top_off» = 3;
+    «bottom_off» = 4;
+    «luma_off» = 4;
+    «luma_top_off» = 7;
+    «luma_bottom_off» = 2;
+    «ss_hor» = 0;
+    «ss_ver» = 0;
     kind = 0;
   };
   lent = record {
@@ -528,21 +531,21 @@ unit10 = record {
 
 unit11 : Vector
 unit11 = record {
-  op = chroma;
+  op = Chroma;
   given = record {
     w = 8;
     h = 8;
     edges = 38;
     stride = 10;
-    lumaStride = 15;
+    «luma_stride» = 15;
     off = 4;
-    topOff = 4;
-    bottomOff = 3;
-    lumaOff = 2;
-    lumaTopOff = 3;
-    lumaBottomOff = 4;
-    ssHor = 0;
-    ssVer = 0;
+    «top_off» = 4;
+    «bottom_off» = 3;
+    «luma_off» = 2;
+    «luma_top_off» = 3;
+    «luma_bottom_off» = 4;
+    «ss_hor» = 0;
+    «ss_ver» = 0;
     kind = 0;
   };
   lent = record {

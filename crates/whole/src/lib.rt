@@ -1,17 +1,85 @@
 // looprestoration.rs: the whole-unit operations. Each opens a unit and advances it by all its rows.
-ghost use Rattle.definition.specs.Units.{luma, user, pretrained, chroma};
-ghost use Rattle.units.specs.Lent.{chromaLent, classedLent, lumaLent};
-ghost use Rattle.units.specs.Openings.{numbersC, numbersY};
+ghost use Rattle.definition.specs.declared.Operation.the-variants.{Luma, User, Pretrained, Chroma};
+ghost use Rattle.units.specs.Lent.{unitLent, lumaLent, classedLent, chromaLent};
+ghost use Rattle.units.specs.Openings.{givenY, givenC};
 ghost use Rattle.whole.specs.Whole.{Whole};
-use units::open_c;
-use units::open_n;
-use units::open_p;
-use units::open_y;
+use definition::Given;
+use definition::Operation;
+use units::opening::given_y;
 
 #[repr(C)]
 pub struct Restored {
     pub status: u8,
     pub pieces: usize,
+}
+
+// A whole unit of any operation. Of the lists that it has no use for, empty ones are lent.
+pub fn restore<'a>(
+    op: Operation,
+    g: Given,
+    p: &mut [u8],
+    left: &[u8],
+    top: &[u8],
+    bottom: &[u8],
+    filters: &[i8],
+    wide: &[i16],
+    map: &[u8],
+    subclass: &[u8],
+    noskip: &[u16],
+    base_q: i32,
+    luma: &'a [u8],
+    luma_top: &'a [u8],
+    luma_bottom: &'a [u8],
+    skip: &[u16],
+) -> Restored
+    ensures { λ r. ⌜ Whole op r g (unitLent op (now (left .entry)) (now (top .entry)) (now (bottom .entry)) (now (filters .entry)) (now (wide .entry)) (now (map .entry)) (now (subclass .entry)) (now (noskip .entry)) «base_q» (now (luma .entry)) (now («luma_top» .entry)) (now («luma_bottom» .entry)) (now (skip .entry))) (now (p .entry)) (now (p .exit)) ⌝ }
+{
+    let opened = units::opening::open(
+        op,
+        g,
+        p,
+        left,
+        top,
+        bottom,
+        filters,
+        wide,
+        map,
+        subclass,
+        noskip,
+        luma,
+        luma_top,
+        luma_bottom,
+        skip,
+    );
+    if opened.status != 0 {
+        return Restored {
+            status: opened.status,
+            pieces: 0,
+        };
+    }
+    let done = units::advance::advance(
+        op,
+        opened.state,
+        g.h,
+        p,
+        left,
+        top,
+        bottom,
+        filters,
+        wide,
+        map,
+        subclass,
+        noskip,
+        base_q,
+        luma,
+        luma_top,
+        luma_bottom,
+        skip,
+    );
+    Restored {
+        status: done.status,
+        pieces: done.pieces,
+    }
 }
 
 // A whole luma unit.
@@ -30,35 +98,30 @@ pub fn ns_wiener_single_y_8bpc(
     edges: usize,
     skip: &[u16],
 ) -> Restored
-    ensures { λ r. ⌜ Whole luma r (numbersY w h edges stride «p_off» «lpf_off» «lpf_bottom_off») (lumaLent (now (left .entry)) (now (lpf .entry)) (now («lpf_bottom» .entry)) (now (filter .entry)) (now (skip .entry))) (now (p .entry)) (now (p .exit)) ⌝ }
+    ensures { λ r. ⌜ Whole Luma r (givenY w h edges stride «p_off» «lpf_off» «lpf_bottom_off») (lumaLent (now (left .entry)) (now (lpf .entry)) (now («lpf_bottom» .entry)) (now (filter .entry)) (now (skip .entry))) (now (p .entry)) (now (p .exit)) ⌝ }
 {
-    let opened = open_y(
+    let g = given_y(w, h, edges, stride, p_off, lpf_off, lpf_bottom_off);
+    let no_sets = [0i16; 0];
+    let no_bytes = [0u8; 0];
+    let no_masks = [0u16; 0];
+    restore(
+        Operation::Luma,
+        g,
         p,
-        p_off,
-        stride,
         left,
         lpf,
-        lpf_off,
         lpf_bottom,
-        lpf_bottom_off,
-        w,
-        h,
         filter,
-        edges,
+        &no_sets,
+        &no_bytes,
+        &no_bytes,
+        &no_masks,
+        0,
+        &no_bytes,
+        &no_bytes,
+        &no_bytes,
         skip,
-    );
-    if opened.status != 0 {
-        return Restored {
-            status: opened.status,
-            pieces: 0,
-        };
-    }
-    let state = opened.state;
-    let done = state.advance_y(h, p, left, lpf, lpf_bottom, filter, skip);
-    Restored {
-        status: done.status,
-        pieces: done.pieces,
-    }
+    )
 }
 
 // A whole unit with user sets.
@@ -81,51 +144,29 @@ pub fn ns_wiener_multi_8bpc(
     edges: usize,
     skip: &[u16],
 ) -> Restored
-    ensures { λ r. ⌜ Whole user r (numbersY w h edges stride «p_off» «lpf_off» «lpf_bottom_off») (classedLent (now (left .entry)) (now (lpf .entry)) (now («lpf_bottom» .entry)) (now (filters .entry)) (now (map .entry)) (now (subclass .entry)) (now (noskip .entry)) (now (skip .entry)) «base_q») (now (p .entry)) (now (p .exit)) ⌝ }
+    ensures { λ r. ⌜ Whole User r (givenY w h edges stride «p_off» «lpf_off» «lpf_bottom_off») (classedLent (now (left .entry)) (now (lpf .entry)) (now («lpf_bottom» .entry)) (now (filters .entry)) (now (map .entry)) (now (subclass .entry)) (now (noskip .entry)) (now (skip .entry)) «base_q») (now (p .entry)) (now (p .exit)) ⌝ }
 {
-    let opened = open_n(
-        p,
-        p_off,
-        stride,
-        left,
-        lpf,
-        lpf_off,
-        lpf_bottom,
-        lpf_bottom_off,
-        w,
-        h,
-        filters,
-        map,
-        subclass,
-        noskip,
-        base_q,
-        edges,
-        skip,
-    );
-    if opened.status != 0 {
-        return Restored {
-            status: opened.status,
-            pieces: 0,
-        };
-    }
-    let state = opened.state;
-    let done = state.advance_n(
-        h,
+    let g = given_y(w, h, edges, stride, p_off, lpf_off, lpf_bottom_off);
+    let no_sets = [0i16; 0];
+    let no_bytes = [0u8; 0];
+    restore(
+        Operation::User,
+        g,
         p,
         left,
         lpf,
         lpf_bottom,
         filters,
+        &no_sets,
         map,
         subclass,
         noskip,
         base_q,
+        &no_bytes,
+        &no_bytes,
+        &no_bytes,
         skip,
-    );
-    Restored {
-        status: done.status,
-        pieces: done.pieces,
-    }
+    )
 }
 
 // A whole unit with pretrained sets.
@@ -148,51 +189,29 @@ pub fn pc_wiener_8bpc(
     edges: usize,
     skip: &[u16],
 ) -> Restored
-    ensures { λ r. ⌜ Whole pretrained r (numbersY w h edges stride «p_off» «lpf_off» «lpf_bottom_off») (classedLent (now (left .entry)) (now (lpf .entry)) (now («lpf_bottom» .entry)) (now (filters .entry)) (now (map .entry)) (now (subclass .entry)) (now (noskip .entry)) (now (skip .entry)) «base_q») (now (p .entry)) (now (p .exit)) ⌝ }
+    ensures { λ r. ⌜ Whole Pretrained r (givenY w h edges stride «p_off» «lpf_off» «lpf_bottom_off») (classedLent (now (left .entry)) (now (lpf .entry)) (now («lpf_bottom» .entry)) (now (filters .entry)) (now (map .entry)) (now (subclass .entry)) (now (noskip .entry)) (now (skip .entry)) «base_q») (now (p .entry)) (now (p .exit)) ⌝ }
 {
-    let opened = open_p(
+    let g = given_y(w, h, edges, stride, p_off, lpf_off, lpf_bottom_off);
+    let no_bytes = [0u8; 0];
+    let no_filters = [0i8; 0];
+    restore(
+        Operation::Pretrained,
+        g,
         p,
-        p_off,
-        stride,
         left,
         lpf,
-        lpf_off,
         lpf_bottom,
-        lpf_bottom_off,
-        w,
-        h,
+        &no_filters,
         filters,
         map,
         subclass,
         noskip,
         base_q,
-        edges,
+        &no_bytes,
+        &no_bytes,
+        &no_bytes,
         skip,
-    );
-    if opened.status != 0 {
-        return Restored {
-            status: opened.status,
-            pieces: 0,
-        };
-    }
-    let state = opened.state;
-    let done = state.advance_p(
-        h,
-        p,
-        left,
-        lpf,
-        lpf_bottom,
-        filters,
-        map,
-        subclass,
-        noskip,
-        base_q,
-        skip,
-    );
-    Restored {
-        status: done.status,
-        pieces: done.pieces,
-    }
+    )
 }
 
 // A whole chroma unit.
@@ -221,54 +240,43 @@ pub fn ns_wiener_single_uv_8bpc<'a>(
     edges: usize,
     skip: &[u16],
 ) -> Restored
-    ensures { λ r. ⌜ Whole chroma r (numbersC w h edges stride lstride «p_off» «lpf_off» «lpf_bottom_off» «luma_off» «luma_top_off» «luma_bottom_off» «ss_hor» «ss_ver» «ds_flt») (chromaLent (now (left .entry)) (now (lpf .entry)) (now («lpf_bottom» .entry)) (now (filter .entry)) (now (luma .entry)) (now («luma_top» .entry)) (now («luma_bottom» .entry)) (now (skip .entry))) (now (p .entry)) (now (p .exit)) ⌝ }
+    ensures { λ r. ⌜ Whole Chroma r (givenC w h edges stride lstride «p_off» «lpf_off» «lpf_bottom_off» «luma_off» «luma_top_off» «luma_bottom_off» «ss_hor» «ss_ver» «ds_flt») (chromaLent (now (left .entry)) (now (lpf .entry)) (now («lpf_bottom» .entry)) (now (filter .entry)) (now (luma .entry)) (now («luma_top» .entry)) (now («luma_bottom» .entry)) (now (skip .entry))) (now (p .entry)) (now (p .exit)) ⌝ }
 {
-    let opened = open_c(
-        p,
-        p_off,
-        stride,
-        left,
-        lpf,
-        lpf_off,
-        lpf_bottom,
-        lpf_bottom_off,
+    let g = Given {
         w,
         h,
-        filter,
-        luma,
+        edges,
+        stride,
+        luma_stride: lstride,
+        off: p_off,
+        top_off: lpf_off,
+        bottom_off: lpf_bottom_off,
         luma_off,
-        lstride,
-        luma_top,
         luma_top_off,
-        luma_bottom,
         luma_bottom_off,
         ss_hor,
         ss_ver,
-        ds_flt,
-        edges,
-        skip,
-    );
-    if opened.status != 0 {
-        return Restored {
-            status: opened.status,
-            pieces: 0,
-        };
-    }
-    let state = opened.state;
-    let done = state.advance_c(
-        h,
+        kind: ds_flt,
+    };
+    let no_sets = [0i16; 0];
+    let no_bytes = [0u8; 0];
+    let no_masks = [0u16; 0];
+    restore(
+        Operation::Chroma,
+        g,
         p,
         left,
         lpf,
         lpf_bottom,
         filter,
+        &no_sets,
+        &no_bytes,
+        &no_bytes,
+        &no_masks,
+        0,
         luma,
         luma_top,
         luma_bottom,
         skip,
-    );
-    Restored {
-        status: done.status,
-        pieces: done.pieces,
-    }
+    )
 }

@@ -2,7 +2,7 @@ use lib.ListN.{length}
 use mathlib.Core.Path.{refl, ap}
 use Rattle.definition.specs.Card.{meaning}
 use Rattle.card_laws.proofs.Fine.{meaning-fine}
-use Rattle.card_answer.proofs.Answered.{declined, Taken, taken, head-fits, answered, unit-answered}
+use Rattle.card_answer.proofs.Answered.{declined, GoodCard, taken, head-fits, answered, unit-answered}
 use borrow.Author.Needs.{needs}
 use Rattle.card_answer.proofs.answer_card.Statement.{statement}
 use Rattle.card_answer.proofs.answer_card.Tie as tie
@@ -61,7 +61,7 @@ put-unit-requires : tie.Need-put-unit-requires
 put-unit-requires c κs =
     let s = c .before .before .before .before .before .before .before .before .before .before .before .before .args .s .now in
     let e = c .before .before .before .before .before .before .before .before .before .before .read-card .ensures in
-    let t : Taken (meaning s) = taken (meaning s) (meaning-fine s) (rw e at (c .before .before .before .before .before .before .before .before .before .if1 .left)) in
+    let t : GoodCard (meaning s) = taken (meaning s) (meaning-fine s) (rw e at (c .before .before .before .before .before .before .before .before .before .if1 .left)) in
     rw e ((t .wide, t .high, t .room, refl), (t .filter, ap length (c .before .before .before .before .before .spread .ensures)))
 
 -- src/rt:86:1

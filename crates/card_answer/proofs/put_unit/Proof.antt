@@ -3,8 +3,8 @@ use native.Mathlib.Omega.{arith}
 use Prim.Native.Nat.{_*_}
 use lib.ListN.{take, drop}
 use lib.Seq.{length-take-le}
+use Rattle.laws.proofs.Inside.{is-sized}
 use Rattle.definition.specs.Limits.{widthLimit, heightLimit}
-use Rattle.card_laws.proofs.Fine.{sized-le}
 use Rattle.card_laws.proofs.Planes.{front}
 use Rattle.card_answer.specs.Answers.{planeOf, unitText}
 use Rattle.card_answer.proofs.Texts.{put-then, head-short}
@@ -48,8 +48,8 @@ put-rows-requires c κs =
     let r = c .before .before .before .before .before .before .before .before .restore in
     let p = c .before .before .before .before .put-head in
     let k = length-take-le (a .args .w * a .args .h) (r .last .1 .1 .1 .1 .0) (omega (arith, r .kept .1 .1 .1 .1 .0, a .pre)) in
-    let lh = sized-le heightLimit (a .args .h) (a .pre .0 .1) in
-    (omega (arith, p .kept .0, a .pre .0 .3, p .ensures .place, head-short (r .result), lh), sized-le widthLimit (a .args .w) (a .pre .0 .0), omega (arith, k))
+    let lh = is-sized heightLimit (a .args .h) (a .pre .0 .1) .high in
+    (omega (arith, p .kept .0, a .pre .0 .3, p .ensures .place, head-short (r .result), lh), is-sized widthLimit (a .args .w) (a .pre .0 .0) .high, omega (arith, k))
 
 -- src/rt:74:1
 same-length : tie.Need-same-length

@@ -1,8 +1,8 @@
 use borrow.Author.Tests.{not-true, not-false}
 use mathlib.Core.Path.{sym, _∙_, ap}
+use Rattle.laws.proofs.Inside.{is-sized}
 use Rattle.definition.specs.Limits.{widthLimit, heightLimit}
 use Rattle.definition.specs.Card.{word}
-use Rattle.card_laws.proofs.Fine.{sized-le}
 use Rattle.card_reader.specs.Answers.{cardOf}
 use Rattle.card_reader.proofs.Places.{found, missed, line-found, line-missed}
 use Rattle.card_reader.proofs.Meanings.{no-op, no-w, bad-w, no-h, bad-h, no-edges, lists-left}
@@ -15,7 +15,6 @@ use Rattle.card_reader.proofs.read_lists.Reads as read-lists-reads
 use Rattle.card_reader.proofs.read_size.Reads as read-size-reads
 use Rattle.card_reader.proofs.read_word.Reads as read-word-reads
 use Rattle.card_reader.proofs.refused.Reads as refused-reads
-use Rattle.card_reader.proofs.sized.Reads as sized-reads
 
 -- src/lib.rt:392:43
 slice-aggregate-read-word : tie.Need-slice-aggregate-read-word
@@ -70,8 +69,8 @@ returns-2 c =
     c .refused2 .ensures ∙ ap cardOf (sym (no-w _ _ _ (line-found word (r1 .before .before .read-word .ensures) (r1 .p1 .given .1)) (missed (c .before .before .before .read-size .ensures) (c .before .enum-told2 .given .1))))
 
 -- src/lib.rt:398:9
-sized-requires : tie.Need-sized-requires
-sized-requires c κs = search needs
+is-sized-requires : tie.Need-is-sized-requires
+is-sized-requires c κs = search needs
 
 -- src/lib.rt:399:9
 refused-requires-3 : tie.Need-refused-requires-3
@@ -83,7 +82,7 @@ unfolding cardOf
 returns-3 c =
     let r2 = c .before .before .before .before in
     let r1 = r2 .before .before .before .before .before in
-    c .refused3 .ensures ∙ ap cardOf (sym (bad-w _ _ _ (line-found word (r1 .before .before .read-word .ensures) (r1 .p1 .given .1)) _ _ (found (r2 .before .before .read-size .ensures) (r2 .w .given .1)) (sym (c .before .before .sized .ensures) ∙ not-true _ (c .before .if1 .taken))))
+    c .refused3 .ensures ∙ ap cardOf (sym (bad-w _ _ _ (line-found word (r1 .before .before .read-word .ensures) (r1 .p1 .given .1)) _ _ (found (r2 .before .before .read-size .ensures) (r2 .w .given .1)) (sym (c .before .before .is-sized .ensures) ∙ not-true _ (c .before .if1 .taken))))
 
 -- src/lib.rt:401:49
 slice-aggregate-read-size-2 : tie.Need-slice-aggregate-read-size-2
@@ -112,11 +111,11 @@ returns-4 c =
     let i1 = c .before .before .before .before .before in
     let r2 = i1 .before .before .before in
     let r1 = r2 .before .before .before .before .before in
-    c .refused4 .ensures ∙ ap cardOf (sym (no-h _ _ _ (line-found word (r1 .before .before .read-word .ensures) (r1 .p1 .given .1)) _ _ (found (r2 .before .before .read-size .ensures) (r2 .w .given .1)) (sym (i1 .before .sized .ensures) ∙ not-false _ (i1 .if1 .left)) (missed (c .before .before .before .read-size2 .ensures) (c .before .enum-told3 .given .1))))
+    c .refused4 .ensures ∙ ap cardOf (sym (no-h _ _ _ (line-found word (r1 .before .before .read-word .ensures) (r1 .p1 .given .1)) _ _ (found (r2 .before .before .read-size .ensures) (r2 .w .given .1)) (sym (i1 .before .is-sized .ensures) ∙ not-false _ (i1 .if1 .left)) (missed (c .before .before .before .read-size2 .ensures) (c .before .enum-told3 .given .1))))
 
 -- src/lib.rt:404:9
-sized-requires-2 : tie.Need-sized-requires-2
-sized-requires-2 c κs = search needs
+is-sized-requires-2 : tie.Need-is-sized-requires-2
+is-sized-requires-2 c κs = search needs
 
 -- src/lib.rt:405:9
 refused-requires-5 : tie.Need-refused-requires-5
@@ -130,7 +129,7 @@ returns-5 c =
     let i1 = r3 .before .before .before .before in
     let r2 = i1 .before .before .before in
     let r1 = r2 .before .before .before .before .before in
-    c .refused5 .ensures ∙ ap cardOf (sym (bad-h _ _ _ (line-found word (r1 .before .before .read-word .ensures) (r1 .p1 .given .1)) _ _ (found (r2 .before .before .read-size .ensures) (r2 .w .given .1)) (sym (i1 .before .sized .ensures) ∙ not-false _ (i1 .if1 .left)) _ _ (found (r3 .before .before .read-size2 .ensures) (r3 .h .given .1)) (sym (c .before .before .sized2 .ensures) ∙ not-true _ (c .before .if2 .taken))))
+    c .refused5 .ensures ∙ ap cardOf (sym (bad-h _ _ _ (line-found word (r1 .before .before .read-word .ensures) (r1 .p1 .given .1)) _ _ (found (r2 .before .before .read-size .ensures) (r2 .w .given .1)) (sym (i1 .before .is-sized .ensures) ∙ not-false _ (i1 .if1 .left)) _ _ (found (r3 .before .before .read-size2 .ensures) (r3 .h .given .1)) (sym (c .before .before .is-sized2 .ensures) ∙ not-true _ (c .before .if2 .taken))))
 
 -- src/lib.rt:407:43
 slice-aggregate-read-word-2 : tie.Need-slice-aggregate-read-word-2
@@ -161,14 +160,14 @@ returns-6 c =
     let i1 = r3 .before .before .before .before in
     let r2 = i1 .before .before .before in
     let r1 = r2 .before .before .before .before .before in
-    c .refused6 .ensures ∙ ap cardOf (sym (no-edges _ _ _ (line-found word (r1 .before .before .read-word .ensures) (r1 .p1 .given .1)) _ _ (found (r2 .before .before .read-size .ensures) (r2 .w .given .1)) (sym (i1 .before .sized .ensures) ∙ not-false _ (i1 .if1 .left)) _ _ (found (r3 .before .before .read-size2 .ensures) (r3 .h .given .1)) (sym (i2 .before .sized2 .ensures) ∙ not-false _ (i2 .if2 .left)) (line-missed word (c .before .before .before .read-word2 .ensures) (c .before .enum-told4 .given .1))))
+    c .refused6 .ensures ∙ ap cardOf (sym (no-edges _ _ _ (line-found word (r1 .before .before .read-word .ensures) (r1 .p1 .given .1)) _ _ (found (r2 .before .before .read-size .ensures) (r2 .w .given .1)) (sym (i1 .before .is-sized .ensures) ∙ not-false _ (i1 .if1 .left)) _ _ (found (r3 .before .before .read-size2 .ensures) (r3 .h .given .1)) (sym (i2 .before .is-sized2 .ensures) ∙ not-false _ (i2 .if2 .left)) (line-missed word (c .before .before .before .read-word2 .ensures) (c .before .enum-told4 .given .1))))
 
 -- src/lib.rt:410:5
 read-lists-requires : tie.Need-read-lists-requires
 read-lists-requires c κs =
     let i2 = c .before .before .before .before .before in
     let i1 = i2 .before .before .before .before .before .before .before in
-    (sized-le widthLimit _ (sym (i1 .before .sized .ensures) ∙ not-false _ (i1 .if1 .left)), sized-le heightLimit _ (sym (i2 .before .sized2 .ensures) ∙ not-false _ (i2 .if2 .left)))
+    (is-sized widthLimit _ (sym (i1 .before .is-sized .ensures) ∙ not-false _ (i1 .if1 .left)) .high, is-sized heightLimit _ (sym (i2 .before .is-sized2 .ensures) ∙ not-false _ (i2 .if2 .left)) .high)
 
 -- src/lib.rt:389:1
 returns-7 : tie.Need-returns-7
@@ -179,7 +178,7 @@ returns-7 c =
     let i1 = r3 .before .before .before .before in
     let r2 = i1 .before .before .before in
     let r1 = r2 .before .before .before .before .before in
-    c .read-lists .ensures ∙ ap cardOf (sym (lists-left _ _ _ (line-found word (r1 .before .before .read-word .ensures) (r1 .p1 .given .1)) _ _ (found (r2 .before .before .read-size .ensures) (r2 .w .given .1)) (sym (i1 .before .sized .ensures) ∙ not-false _ (i1 .if1 .left)) _ _ (found (r3 .before .before .read-size2 .ensures) (r3 .h .given .1)) (sym (i2 .before .sized2 .ensures) ∙ not-false _ (i2 .if2 .left)) _ (line-found word (r4 .before .before .read-word2 .ensures) (r4 .p4 .given .1))))
+    c .read-lists .ensures ∙ ap cardOf (sym (lists-left _ _ _ (line-found word (r1 .before .before .read-word .ensures) (r1 .p1 .given .1)) _ _ (found (r2 .before .before .read-size .ensures) (r2 .w .given .1)) (sym (i1 .before .is-sized .ensures) ∙ not-false _ (i1 .if1 .left)) _ _ (found (r3 .before .before .read-size2 .ensures) (r3 .h .given .1)) (sym (i2 .before .is-sized2 .ensures) ∙ not-false _ (i2 .if2 .left)) _ (line-found word (r4 .before .before .read-word2 .ensures) (r4 .p4 .given .1))))
 
 pub read-unit-spec : {M : Type 1} → statement M
 read-unit-spec =
@@ -197,7 +196,7 @@ read-unit-spec =
     enum-told-2
     refused-requires-2
     returns-2
-    sized-requires
+    is-sized-requires
     refused-requires-3
     returns-3
     slice-aggregate-read-size-2
@@ -206,7 +205,7 @@ read-unit-spec =
     enum-told-3
     refused-requires-4
     returns-4
-    sized-requires-2
+    is-sized-requires-2
     refused-requires-5
     returns-5
     slice-aggregate-read-word-2

@@ -1,22 +1,18 @@
--- `class_index::skip_share` meets its contract: the test is that of `bitSet`.
-use Prim.Native.Nat.{_/_, _%_, _^_}
+-- `class_index::skip_share` meets its contract: by the test of the bit.
+use mathlib.Core.Path.{sym, _∙_}
 use native.Mathlib.Omega.{arith}
 use borrow.Author.Needs.{needs}
-use borrow.Author.Tests.{eq-eqb, ne-eqb}
 use Rattle.class_index.proofs.skip_share.Statement.{statement}
 use Rattle.class_index.proofs.skip_share.Tie as tie
 
-cast-if1 : tie.Need-cast-if1
-cast-if1 c = search needs
-
-shr-if1 : tie.Need-shr-if1
-shr-if1 c = search needs
+is-set-requires : tie.Need-is-set-requires
+is-set-requires c κs = search needs
 
 returns : tie.Need-returns
-returns c = let a = c .before .args in (rw (eq-eqb (a .mask / 2 ^ a .column % 2) 1 (c .if1 .taken)), omega arith)
+returns c = (rw (sym (c .before .is-set .ensures) ∙ c .if1 .taken), omega arith)
 
 returns-2 : tie.Need-returns-2
-returns-2 c = let a = c .before .args in (rw (ne-eqb (a .mask / 2 ^ a .column % 2) 1 (c .if1 .left)), omega arith)
+returns-2 c = (rw (sym (c .before .is-set .ensures) ∙ c .if1 .left), omega arith)
 
 pub skip-share-spec : {M : Type 1} → statement M
-skip-share-spec = tie.close (tie.spec cast-if1 shr-if1 returns returns-2)
+skip-share-spec = tie.close (tie.spec is-set-requires returns returns-2)

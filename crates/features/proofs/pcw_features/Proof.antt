@@ -6,7 +6,7 @@ use native.Mathlib.Omega.{arith}
 use borrow.Author.Needs.{needs}
 use borrow.Author.Tests.{leb-true}
 use Rattle.definition.specs.ClassIndex.{lastColumn}
-use Rattle.features.specs.Features.{Rows}
+use Rattle.features.specs.Features.{TenRows}
 use Rattle.features.proofs.Statuses.{rows-inside, no-sums}
 use Rattle.features.proofs.pcw_features.Statement.{statement}
 use Rattle.features.proofs.pcw_features.Tie as tie
@@ -20,7 +20,7 @@ returns c = (c .before .rows-status .ensures, no-sums _ _ (c .if1 .taken))
 -- what is lent lies inside
 inside : (c : tie.Else1) →
     let a = c .before .before .before .args in
-    Rows (a .rows .now) (a .indices .now) × (a .bx ≤ lastColumn)
+    TenRows (a .rows .now) (a .indices .now) × (a .bx ≤ lastColumn)
 inside c =
     let a = c .before .before .before .args in
     let p = rows-inside (a .rows .now) (a .indices .now) _ (sym (c .before .rows-status .ensures) ∙ c .if1 .left) in

@@ -5,7 +5,7 @@ use native.Mathlib.Omega.{arith}
 use borrow.Author.Needs.{needs}
 use borrow.Author.Tests.{leb-true}
 use Rattle.definition.specs.Limits.{blockColumnLimit}
-use Rattle.features.specs.Features.{Rows}
+use Rattle.features.specs.Features.{TenRows}
 use Rattle.features.proofs.Statuses.{rows-inside, none-served}
 use Rattle.features.proofs.row_features.Statement.{statement}
 use Rattle.features.proofs.row_features.Tie as tie
@@ -21,7 +21,7 @@ returns c =
 -- what is lent lies inside
 inside : (c : tie.Else1) →
     let a = c .before .before .before .args in
-    Rows (a .rows .now) (a .indices .now) × (a .n ≤ blockColumnLimit)
+    TenRows (a .rows .now) (a .indices .now) × (a .n ≤ blockColumnLimit)
 inside c =
     let a = c .before .before .before .args in
     let p = rows-inside (a .rows .now) (a .indices .now) _ (sym (c .before .rows-status .ensures) ∙ c .if1 .left) in

@@ -1,9 +1,7 @@
--- `operations::top_rows` meets its contract: the rows by the two bits, as `Borders` has them.
-use mathlib.Core.Path.{_∙_}
+-- `operations::top_rows` meets its contract: the rows by the two bits as they are tested.
+use mathlib.Core.Path.{sym, _∙_}
 use native.Mathlib.Omega.{arith}
 use borrow.Author.Needs.{needs}
-use Rattle.operations.specs.Operations.{operationOf}
-use Rattle.operations.proofs.Borders.{top-integrated, top-saved, top-none}
 use Rattle.operations.proofs.top_rows.Statement.{statement}
 use Rattle.operations.proofs.top_rows.Tie as tie
 
@@ -16,8 +14,7 @@ border-of-requires c κs = search needs
 returns : tie.Need-returns
 returns c =
     let t = c .before in
-    let a = t .before .before .args in
-    (c .border-of .ensures .0 ∙ top-integrated (operationOf (a .op)) (a .edges) (t .before .is-set .ensures) (t .if1 .taken), c .border-of .ensures .1)
+    (c .border-of .ensures .0 ∙ rw (← t .before .is-set .ensures, t .if1 .taken), c .border-of .ensures .1)
 
 is-set-requires-2 : tie.Need-is-set-requires-2
 is-set-requires-2 c κs = search needs
@@ -25,14 +22,12 @@ is-set-requires-2 c κs = search needs
 returns-2 : tie.Need-returns-2
 returns-2 c =
     let t = c .before .before in
-    let a = t .before .before .args in
-    (top-saved (operationOf (a .op)) (a .edges) (t .before .is-set .ensures) (t .if1 .left) (c .before .is-set2 .ensures) (c .if2 .taken), omega arith)
+    (rw (← t .before .is-set .ensures, t .if1 .left, ← c .before .is-set2 .ensures, c .if2 .taken), omega arith)
 
 returns-3 : tie.Need-returns-3
 returns-3 c =
     let t = c .before .before in
-    let a = t .before .before .args in
-    (top-none (operationOf (a .op)) (a .edges) (t .before .is-set .ensures) (t .if1 .left) (c .before .is-set2 .ensures) (c .if2 .left), omega arith)
+    (rw (← t .before .is-set .ensures, t .if1 .left, ← c .before .is-set2 .ensures, c .if2 .left), omega arith)
 
 pub top-rows-spec : {M : Type 1} → statement M
 top-rows-spec =

@@ -1,6 +1,6 @@
 -- `paused::restore_paused` meets its contract: demand 3 at the history of its calls (Histories).
 use mathlib.Core.Path.{refl, sym, _∙_}
-use Rattle.units.specs.Openings.{numbersY}
+use Rattle.units.specs.Openings.{givenY}
 use Rattle.units.specs.Lent.{lumaLent}
 use Rattle.paused.proofs.Histories.{paused-whole, early-size}
 use borrow.Author.Needs.{needs}
@@ -22,7 +22,7 @@ advance-y-requires c κs = search needs
 write-over-requires : tie.Need-write-over-requires
 write-over-requires c κs =
     let t = c .before .before .before .before .before .before .before .before .before .before .before .before .before .before .before .args in
-    let n = numbersY (t .w) (t .h) (t .edges) (t .stride) (t .p-off) (t .lpf-off) (t .lpf-bottom-off) in
+    let n = givenY (t .w) (t .h) (t .edges) (t .stride) (t .p-off) (t .lpf-off) (t .lpf-bottom-off) in
     let l = lumaLent (t .left .now) (t .lpf .now) (t .lpf-bottom .now) (t .filter .now) (t .skip .now) in
     let o = c .before .before .before .before .before .before .before .before .open-y .ensures in
     early-size n l (t .p .now) (sym (o .status) ∙ c .before .before .before .before .before .before .if1 .left) (t .count) _ _ _ o (c .before .before .before .advance-y .ensures)
@@ -36,7 +36,7 @@ same-length-2 c = search needs
 returns-2 : tie.Need-returns-2
 returns-2 c =
     let t = c .before .before .before .before .before .before .before .before .before .before .before .before .before .before .before .before .before .before .before .before .before .before .before .args in
-    let n = numbersY (t .w) (t .h) (t .edges) (t .stride) (t .p-off) (t .lpf-off) (t .lpf-bottom-off) in
+    let n = givenY (t .w) (t .h) (t .edges) (t .stride) (t .p-off) (t .lpf-off) (t .lpf-bottom-off) in
     let l = lumaLent (t .left .now) (t .lpf .now) (t .lpf-bottom .now) (t .filter .now) (t .skip .now) in
     let o = c .before .before .before .before .before .before .before .before .before .before .before .before .before .before .before .before .open-y .ensures in
     paused-whole n l (t .p .now) (sym (o .status) ∙ c .before .before .before .before .before .before .before .before .before .before .before .before .before .before .if1 .left) (t .count) (t .v) _ _ _ _ _ _ _ o (c .before .before .before .before .before .before .before .before .before .before .before .advance-y .ensures) (c .before .before .before .before .before .before .before .write-over .ensures) (c .before .before .advance-y2 .ensures) refl refl refl

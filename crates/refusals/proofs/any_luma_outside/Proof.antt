@@ -3,8 +3,6 @@ use mathlib.Core.Path.{_∙_}
 use mathlib.Core.Bool.{_||_}
 use borrow.Author.Needs.{needs}
 use Rattle.definition.specs.Refusals.{lumaOutside}
-use Rattle.operations.specs.Operations.{operationOf}
-use Rattle.refusals.specs.Given.{givenOf, sizesGiven}
 use Rattle.refusals.proofs.any_luma_outside.Statement.{statement}
 use Rattle.refusals.proofs.any_luma_outside.Tie as tie
 
@@ -38,12 +36,10 @@ either-requires-2 c κs = search needs
 returns : tie.Need-returns
 returns c =
     let a = c .before .before .before .before .before .before .before .before .before .args in
-    let o = operationOf (a .op) in
-    let g = givenOf (a .g) in
-    let z = sizesGiven (a .z) in
-    let plane = c .before .before .before .before .luma-outside .ensures ∙ (λ i. lumaOutside o g z (a .z .«luma_plane») (a .g .«luma_off») (c .before .before .before .before .before .before .before .before .luma-down .ensures .0 i) (c .before .before .before .before .before .before .before .luma-above .ensures .0 i)) in
-    let top = c .before .before .before .luma-outside2 .ensures ∙ (λ i. lumaOutside o g z (a .z .«luma_top») (a .g .«luma_top_off») (c .before .before .before .before .before .before .luma-top-rows .ensures .0 i) 0) in
-    let bottom = c .before .before .luma-outside3 .ensures ∙ (λ i. lumaOutside o g z (a .z .«luma_bottom») (a .g .«luma_bottom_off») (c .before .before .before .before .before .bottom-rows .ensures .0 i) 0) in
+    let g = (a .g) in
+    let plane = c .before .before .before .before .luma-outside .ensures ∙ (λ i. lumaOutside g (a .z .«luma_plane») (a .g .«luma_off») (c .before .before .before .before .before .before .before .before .luma-down .ensures .0 i) (c .before .before .before .before .before .before .before .luma-above .ensures .0 i)) in
+    let top = c .before .before .before .luma-outside2 .ensures ∙ (λ i. lumaOutside g (a .z .«luma_top») (a .g .«luma_top_off») (c .before .before .before .before .before .before .luma-top-rows .ensures .0 i) 0) in
+    let bottom = c .before .before .luma-outside3 .ensures ∙ (λ i. lumaOutside g (a .z .«luma_bottom») (a .g .«luma_bottom_off») (c .before .before .before .before .before .bottom-rows .ensures .0 i) 0) in
     c .either2 .ensures ∙ (λ i. (c .before .either .ensures ∙ (λ j. plane j || top j)) i || bottom i)
 
 pub any-luma-outside-spec : {M : Type 1} → statement M

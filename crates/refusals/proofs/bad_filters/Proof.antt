@@ -1,12 +1,8 @@
 -- `refusals::bad_filters` meets its contract: by whether the operation has classes.
-use mathlib.Core.Path.{sym, _∙_}
-use mathlib.Core.Bool.{not, _||_}
-use Prim.Native.Nat.{_%_}
-use lib.Dec.{eqb}
+use mathlib.Core.Path.{_≡_, sym, _∙_}
+use mathlib.Core.Bool.{true, false}
 use borrow.Author.Needs.{needs}
-use Rattle.operations.specs.Operations.{operationOf}
-use Rattle.refusals.specs.Given.{givenOf, sizesGiven}
-use Rattle.refusals.proofs.Refused.{filters-classed, filters-other}
+use Rattle.definition.specs.Units.{classed}
 use Rattle.refusals.proofs.bad_filters.Statement.{statement}
 use Rattle.refusals.proofs.bad_filters.Tie as tie
 
@@ -25,16 +21,14 @@ either-requires c κs = search needs
 returns : tie.Need-returns
 returns c =
     let a = c .before .before .before .before .before .args in
-    let o = operationOf (a .op) in
-    c .either .ensures ∙ (λ i. not (eqb (a .z .filters % c .before .before .before .before .set-size .ensures .0 i) 0) || a .z .«bad_map») ∙
-    filters-classed o (givenOf (a .g)) (sizesGiven (a .z)) o (sym (c .before .before .before .is-classed .ensures) ∙ c .before .before .if1 .taken)
+    let h : classed (a .op) ≡ true = sym (c .before .before .before .is-classed .ensures) ∙ c .before .before .if1 .taken in
+    c .either .ensures ∙ rw (c .before .before .before .before .set-size .ensures .0, h)
 
 returns-2 : tie.Need-returns-2
 returns-2 c =
     let a = c .before .before .before .before .args in
-    let o = operationOf (a .op) in
-    (λ i. not (eqb (a .z .filters) (c .before .before .before .set-size .ensures .0 i))) ∙
-    filters-other o (givenOf (a .g)) (sizesGiven (a .z)) o (sym (c .before .before .is-classed .ensures) ∙ c .before .if1 .left)
+    let h : classed (a .op) ≡ false = sym (c .before .before .is-classed .ensures) ∙ c .before .if1 .left in
+    rw (c .before .before .before .set-size .ensures .0, h)
 
 pub bad-filters-spec : {M : Type 1} → statement M
 bad-filters-spec =

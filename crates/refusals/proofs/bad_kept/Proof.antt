@@ -1,12 +1,7 @@
 -- `refusals::bad_kept` meets its contract: by whether the operation has classes.
-use mathlib.Core.Path.{_≡_, refl, sym, _∙_}
-use mathlib.Core.Bool.{false, not}
-use Prim.Native.Nat.{_/_}
-use lib.Dec.{ltb}
-use Rattle.definition.specs.Units.{setSize}
-use Rattle.definition.specs.Refusals.{firstPass, badKept}
-use Rattle.operations.specs.Operations.{operationOf}
-use Rattle.refusals.proofs.Chosen.{when-classed, unless-classed}
+use mathlib.Core.Path.{_≡_, sym, _∙_}
+use mathlib.Core.Bool.{true, false}
+use Rattle.definition.specs.Units.{classed}
 use borrow.Author.Needs.{needs}
 use Rattle.refusals.proofs.bad_kept.Statement.{statement}
 use Rattle.refusals.proofs.bad_kept.Tie as tie
@@ -24,15 +19,14 @@ returns : tie.Need-returns
 returns c =
     let a = c .before .before .before .before .args in
     let d = c .before .set-size .ensures .0 in
-    c .past-filters .ensures ∙
-    (rw d
-    (when-classed (λ o. not (firstPass (λ k. ltb k (a .filters / setSize o)) 16 (a .classes .now)) ≡ badKept o (a .classes .now) (a .filters)) refl refl (operationOf (a .op))
-    (sym (c .before .before .before .is-classed .ensures) ∙ c .before .before .if1 .taken)))
+    let h : classed (a .op) ≡ true = sym (c .before .before .before .is-classed .ensures) ∙ c .before .before .if1 .taken in
+    c .past-filters .ensures ∙ rw (d, h)
 
 returns-2 : tie.Need-returns-2
 returns-2 c =
     let a = c .before .before .args in
-    unless-classed (λ o. false ≡ badKept o (a .classes .now) (a .filters)) refl refl (operationOf (a .op)) (sym (c .before .is-classed .ensures) ∙ c .if1 .left)
+    let h : classed (a .op) ≡ false = sym (c .before .is-classed .ensures) ∙ c .if1 .left in
+    rw h
 
 pub bad-kept-spec : {M : Type 1} → statement M
 bad-kept-spec =

@@ -1,9 +1,6 @@
 -- `refusals::bad_luma` meets its contract: by whether the operation is chroma.
 use mathlib.Core.Path.{sym, _∙_}
 use borrow.Author.Needs.{needs}
-use Rattle.operations.specs.Operations.{operationOf}
-use Rattle.refusals.specs.Given.{givenOf, sizesGiven}
-use Rattle.refusals.proofs.Refused.{luma-other, luma-chroma}
 use Rattle.refusals.proofs.bad_luma.Statement.{statement}
 use Rattle.refusals.proofs.bad_luma.Tie as tie
 
@@ -15,15 +12,11 @@ any-luma-outside-requires c κs = c .before .before .pre .luma (sym (c .before .
 
 returns : tie.Need-returns
 returns c =
-    let a = c .before .before .before .args in
-    let o = operationOf (a .op) in
-    c .any-luma-outside .ensures ∙ luma-chroma o (givenOf (a .g)) (sizesGiven (a .z)) o (sym (c .before .before .is-chroma .ensures) ∙ c .before .if1 .taken)
+    c .any-luma-outside .ensures ∙ rw (← c .before .before .is-chroma .ensures, c .before .if1 .taken)
 
 returns-2 : tie.Need-returns-2
 returns-2 c =
-    let a = c .before .before .args in
-    let o = operationOf (a .op) in
-    luma-other o (givenOf (a .g)) (sizesGiven (a .z)) o (sym (c .before .is-chroma .ensures) ∙ c .if1 .left)
+    rw (← c .before .is-chroma .ensures, c .if1 .left)
 
 pub bad-luma-spec : {M : Type 1} → statement M
 bad-luma-spec = tie.close (tie.spec is-chroma-requires any-luma-outside-requires returns returns-2)

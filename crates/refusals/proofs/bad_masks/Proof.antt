@@ -3,10 +3,8 @@ use mathlib.Core.Path.{_∙_}
 use mathlib.Core.Bool.{_&&_, _||_}
 use Prim.Native.Nat.{_/_}
 use lib.Dec.{ltb}
+use Rattle.definition.specs.Blocks.{side}
 use borrow.Author.Needs.{needs}
-use Rattle.operations.specs.Operations.{operationOf}
-use Rattle.refusals.specs.Given.{givenOf, sizesGiven}
-use Rattle.refusals.proofs.Refused.{noskip}
 use Rattle.refusals.proofs.bad_masks.Statement.{statement}
 use Rattle.refusals.proofs.bad_masks.Tie as tie
 
@@ -22,8 +20,7 @@ either-requires c κs = search needs
 returns : tie.Need-returns
 returns c =
     let a = c .before .before .before .before .before .before .before .args in
-    let o = operationOf (a .op) in
-    let few = c .before .both .ensures ∙ (λ i. c .before .before .is-classed .ensures i && ltb (a .z .noskip) (a .g .h / 4)) ∙ noskip o (givenOf (a .g)) (sizesGiven (a .z)) o in
+    let few = c .before .both .ensures ∙ (λ i. c .before .before .is-classed .ensures i && ltb (a .z .noskip) (a .g .h / side)) in
     c .either .ensures ∙ (λ i. ltb (a .z .skip) (a .g .h) || few i)
 
 pub bad-masks-spec : {M : Type 1} → statement M

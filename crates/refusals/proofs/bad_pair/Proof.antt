@@ -3,9 +3,6 @@ use mathlib.Core.Path.{_∙_}
 use mathlib.Core.Bool.{_&&_, _||_}
 use lib.Dec.{ltb}
 use borrow.Author.Needs.{needs}
-use Rattle.operations.specs.Operations.{operationOf}
-use Rattle.refusals.specs.Given.{givenOf, sizesGiven}
-use Rattle.refusals.proofs.Refused.{pair}
 use Rattle.refusals.proofs.bad_pair.Statement.{statement}
 use Rattle.refusals.proofs.bad_pair.Tie as tie
 
@@ -24,9 +21,7 @@ both-requires c κs = search needs
 returns : tie.Need-returns
 returns c =
     let a = c .before .before .before .before .before .before .before .args in
-    let o = operationOf (a .op) in
-    c .both .ensures ∙ (λ i. c .before .before .before .is-chroma .ensures i && (c .before .either2 .ensures ∙ (λ j. c .before .before .before .before .either .ensures j || ltb 2 (a .g .kind))) i) ∙
-    pair o (givenOf (a .g)) (sizesGiven (a .z)) o
+    c .both .ensures ∙ (λ i. c .before .before .before .is-chroma .ensures i && (c .before .either2 .ensures ∙ (λ j. c .before .before .before .before .either .ensures j || ltb 2 (a .g .kind))) i)
 
 pub bad-pair-spec : {M : Type 1} → statement M
 bad-pair-spec =

@@ -5,10 +5,9 @@ use Prim.Native.Nat.{_+_}
 use lib.Dec.{ltb}
 use borrow.Author.Needs.{needs}
 use Rattle.definition.specs.Padding.{hasRight}
+use Rattle.definition.specs.Limits.{strideLimit}
 use Rattle.definition.specs.Units.{border}
-use Rattle.operations.specs.Operations.{operationOf}
-use Rattle.refusals.specs.Given.{givenOf, sizesGiven}
-use Rattle.refusals.proofs.Refused.{narrow, luma-stride}
+use Rattle.refusals.proofs.Refused.{narrow}
 use Rattle.refusals.proofs.bad_stride.Statement.{statement}
 use Rattle.refusals.proofs.bad_stride.Tie as tie
 
@@ -36,11 +35,11 @@ either-requires-2 c κs = search needs
 returns : tie.Need-returns
 returns c =
     let a = c .before .before .before .before .before .before .before .before .before .args in
-    let o = operationOf (a .op) in
+    let o = (a .op) in
     let right : c .before .before .before .before .before .before .before .beside .result ≡ cond (hasRight (a .g .edges)) (border o) 0 = c .before .before .before .before .before .before .before .beside .ensures .0 ∙ (λ i. cond (hasRight (a .g .edges)) (c .before .before .before .before .before .before .before .before .border-of .ensures .0 i) 0) in
     let slim = ap not (c .before .before .before .before .before .before .room .ensures) ∙ narrow (a .g .w) (c .before .before .before .before .before .before .before .beside .result) (a .g .stride) ∙ (λ i. ltb (a .g .stride) (a .g .w + right i)) in
-    let luma = c .before .before .before .both .ensures ∙ (λ i. c .before .before .before .before .before .is-chroma .ensures i && ltb 65536 (a .g .«luma_stride»)) ∙ luma-stride o (givenOf (a .g)) (sizesGiven (a .z)) o in
-    c .either2 .ensures ∙ (λ i. (c .before .either .ensures ∙ (λ j. slim j || ltb 65536 (a .g .stride))) i || luma i)
+    let luma = c .before .before .before .both .ensures ∙ (λ i. c .before .before .before .before .before .is-chroma .ensures i && ltb strideLimit (a .g .«luma_stride»)) in
+    c .either2 .ensures ∙ (λ i. (c .before .either .ensures ∙ (λ j. slim j || ltb strideLimit (a .g .stride))) i || luma i)
 
 pub bad-stride-spec : {M : Type 1} → statement M
 bad-stride-spec =

@@ -1,6 +1,6 @@
 -- `refusals::early` meets its contract: call by call.
 use mathlib.Core.Path.{_∙_}
-use mathlib.Core.Bool.{cond}
+use mathlib.Core.Bool.{cond, not}
 use borrow.Author.Needs.{needs}
 use Rattle.refusals.proofs.early.Statement.{statement}
 use Rattle.refusals.proofs.early.Tie as tie
@@ -17,11 +17,11 @@ bad-stride-requires c κs = search needs
 code-requires-2 : tie.Need-code-requires-2
 code-requires-2 c κs = search needs
 
-bad-size-requires : tie.Need-bad-size-requires
-bad-size-requires c κs = search needs
+is-sized-requires : tie.Need-is-sized-requires
+is-sized-requires c κs = search needs
 
-bad-size-requires-2 : tie.Need-bad-size-requires-2
-bad-size-requires-2 c κs = search needs
+is-sized-requires-2 : tie.Need-is-sized-requires-2
+is-sized-requires-2 c κs = search needs
 
 code-requires-3 : tie.Need-code-requires-3
 code-requires-3 c κs = search needs
@@ -33,8 +33,8 @@ returns : tie.Need-returns
 returns c =
     let four = c .before .before .before .before .before .before .code .ensures ∙ (λ i. cond (c .before .before .before .before .before .before .before .bad-pair .ensures i) 4 0) in
     let three = c .before .before .before .before .code2 .ensures ∙ (λ i. cond (c .before .before .before .before .before .bad-stride .ensures i) 3 (four i)) in
-    let two = c .before .code3 .ensures ∙ (λ i. cond (c .before .before .bad-size2 .ensures i) 2 (three i)) in
-    c .code4 .ensures ∙ (λ i. cond (c .before .before .before .bad-size .ensures i) 1 (two i))
+    let two = c .before .code3 .ensures ∙ (λ i. cond (not (c .before .before .is-sized2 .ensures i)) 2 (three i)) in
+    c .code4 .ensures ∙ (λ i. cond (not (c .before .before .before .is-sized .ensures i)) 1 (two i))
 
 pub early-spec : {M : Type 1} → statement M
 early-spec =
@@ -44,8 +44,8 @@ early-spec =
     code-requires
     bad-stride-requires
     code-requires-2
-    bad-size-requires
-    bad-size-requires-2
+    is-sized-requires
+    is-sized-requires-2
     code-requires-3
     code-requires-4
     returns)

@@ -1,10 +1,11 @@
 -- `refusals::is_outside` meets its contract: the rows before the last are at most 135 strides of 65,536.
 use mathlib.Core.Path.{ap, _∙_}
 use mathlib.Core.Bool.{not}
-use Prim.Native.Nat.{_-_, _≤_}
+use Prim.Native.Nat.{_+_, _*_, _-_, _≤_}
 use native.Mathlib.Nat.{mul-le-mul}
 use native.Mathlib.Omega.{arith}
 use borrow.Author.Needs.{needs}
+use Rattle.definition.specs.Limits.{heightLimit, strideLimit}
 use Rattle.refusals.proofs.Refused.{outside-before, outside-behind}
 use Rattle.refusals.proofs.is_outside.Statement.{statement}
 use Rattle.refusals.proofs.is_outside.Tie as tie
@@ -23,8 +24,8 @@ sub-room c = search needs
 mul-room : tie.Need-mul-room
 mul-room c =
     let a = c .before .before .args in
-    let h : a .rows - 1 ≤ 135 = omega arith in
-    let k : a .stride ≤ 65536 = omega arith in
+    let h : a .rows - 1 ≤ 2 * (heightLimit + 4) = omega arith in
+    let k : a .stride ≤ strideLimit = omega arith in
     record { fits = omega (arith, mul-le-mul h k) }
 
 add-room : tie.Need-add-room

@@ -15,14 +15,14 @@ sub-result c = search needs
 
 returns : tie.Need-returns
 returns c =
-    let a = c .before .before .args in
-    let h : (eqb (a .ver) 1 && eqb (a .kind) 2) ≡ true = sym (c .before .both .ensures) ∙ c .if1 .taken in
+    let a = c .before .before .before .before .args in
+    let h : (eqb (a .g .«ss_ver») 1 && eqb (a .g .kind) 2) ≡ true = sym (c .before .both .ensures) ∙ c .if1 .taken in
     (rw h, omega arith)
 
 returns-2 : tie.Need-returns-2
 returns-2 c =
-    let a = c .before .before .args in
-    let h : (eqb (a .ver) 1 && eqb (a .kind) 2) ≡ false = sym (c .before .both .ensures) ∙ c .if1 .left in
+    let a = c .before .before .before .before .args in
+    let h : (eqb (a .g .«ss_ver») 1 && eqb (a .g .kind) 2) ≡ false = sym (c .before .both .ensures) ∙ c .if1 .left in
     (rw h, omega arith)
 
 pub luma-rows-spec : {M : Type 1} → statement M

@@ -18,11 +18,11 @@ abbrev μ-loop : tie.MeasureT-loop
 loop-holds : tie.Need-loop-holds Inv-loop μ-loop
 loop-holds c = (omega arith, sym (highest-none _))
 
-shared-slice-read-larger : tie.Need-shared-slice-read-larger Inv-loop μ-loop
-shared-slice-read-larger c = search needs
+shared-slice-read-larger-byte : tie.Need-shared-slice-read-larger-byte Inv-loop μ-loop
+shared-slice-read-larger-byte c = search needs
 
-larger-requires : tie.Need-larger-requires Inv-loop μ-loop
-larger-requires c κs = search needs
+larger-byte-requires : tie.Need-larger-byte-requires Inv-loop μ-loop
+larger-byte-requires c κs = search needs
 
 add-k : tie.Need-add-k Inv-loop μ-loop
 add-k c = search needs
@@ -33,7 +33,7 @@ loop-less c = search needs
 loop-again : tie.Need-loop-again Inv-loop μ-loop
 loop-again c =
     let l = c .before .before .before .loop in
-    (omega arith, c .larger .ensures ∙ (λ i. max (l .inv .1 i) (getD (c .before .before .before .before .before .args .xs .now) (l .k) 0)) ∙ highest-more _ (l .k))
+    (omega arith, c .larger-byte .ensures ∙ (λ i. max (l .inv .1 i) (getD (c .before .before .before .before .before .args .xs .now) (l .k) 0)) ∙ highest-more _ (l .k))
 
 returns : tie.Need-returns Inv-loop μ-loop
 returns c =
@@ -48,8 +48,8 @@ most-spec =
     Inv-loop
     μ-loop
     loop-holds
-    shared-slice-read-larger
-    larger-requires
+    shared-slice-read-larger-byte
+    larger-byte-requires
     add-k
     loop-less
     loop-again

@@ -7,16 +7,17 @@ use lib.Dec.{ltb}
 use lib.ListN.{getD}
 use borrow.Author.Needs.{needs}
 use borrow.Author.Tests.{lt-ltb, le-ltb}
+use Rattle.definition.specs.Limits.{blockColumnLimit}
 use Rattle.definition.specs.Refusals.{firstPass}
 use Rattle.laws.proofs.Passes.{pass-none, pass-more, pass-fails}
 use Rattle.refusals.proofs.past_filters.Statement.{statement}
 use Rattle.refusals.proofs.past_filters.Tie as tie
 
 abbrev Inv-loop : tie.InvT-loop
-Inv-loop classes numbers size n k₀ k = (k ≤ 16) × (firstPass (λ i. ltb i n) k classes ≡ true)
+Inv-loop classes numbers size n k₀ k = (k ≤ blockColumnLimit) × (firstPass (λ i. ltb i n) k classes ≡ true)
 
 abbrev μ-loop : tie.MeasureT-loop
-μ-loop classes numbers size n k₀ k = 16 - k
+μ-loop classes numbers size n k₀ k = blockColumnLimit - k
 
 div-n : tie.Need-div-n Inv-loop μ-loop
 div-n c = search needs
@@ -35,7 +36,7 @@ returns c =
     let a = c .before .before .before .before .before .args in
     let k = c .before .before .before .before .loop .k in
     let e = c .before .wide .ensures in
-    sym (ap not (pass-fails (λ i. ltb i (a .numbers / a .size)) (a .classes .now) 16 k (omega arith) (le-ltb (getD (a .classes .now) k 0) (a .numbers / a .size) (rw e at (c .if1 .taken)))))
+    sym (ap not (pass-fails (λ i. ltb i (a .numbers / a .size)) (a .classes .now) blockColumnLimit k (omega arith) (le-ltb (getD (a .classes .now) k 0) (a .numbers / a .size) (rw e at (c .if1 .taken)))))
 
 add-k : tie.Need-add-k Inv-loop μ-loop
 add-k c = search needs
@@ -53,7 +54,7 @@ loop-again c =
 returns-2 : tie.Need-returns-2 Inv-loop μ-loop
 returns-2 c =
     let l = c .before .loop in
-    let e : l .k ≡ 16 = omega arith in
+    let e : l .k ≡ blockColumnLimit = omega arith in
     sym (ap not (rw e at (l .inv .1)))
 
 pub past-filters-spec : {M : Type 1} → statement M

@@ -1,10 +1,10 @@
--- `units::open_p` meets its contract: the opening of its kind.
+-- `units::open_p` meets its contract: the opening of its operation.
 use borrow.Author.Needs.{needs}
 use Rattle.units.proofs.open_p.Statement.{statement}
 use Rattle.units.proofs.open_p.Tie as tie
 
-numbers-requires : tie.Need-numbers-requires
-numbers-requires c κs = search needs
+given-y-requires : tie.Need-given-y-requires
+given-y-requires c κs = search needs
 
 slice-aggregate-open : tie.Need-slice-aggregate-open
 slice-aggregate-open c = search needs
@@ -22,13 +22,13 @@ open-requires : tie.Need-open-requires
 open-requires c κs = search needs
 
 returns : tie.Need-returns
-returns c = rw (c .before .before .before .before .before .numbers .ensures) at (c .«open» .ensures (c .before .before .before .before .before .before .before .before .before .before .before .before .before .before .args .base-q))
+returns c = rw (c .before .before .before .before .before .given-y .ensures) at (c .«open» .ensures (c .before .before .before .before .before .before .before .before .before .before .before .before .before .before .args .base-q))
 
 pub open-p-spec : {M : Type 1} → statement M
 open-p-spec =
     tie.close
     (tie.spec
-    numbers-requires
+    given-y-requires
     slice-aggregate-open
     slice-aggregate-open-2
     slice-aggregate-open-3

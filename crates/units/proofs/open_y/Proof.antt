@@ -1,11 +1,11 @@
--- `units::open_y` meets its contract: the opening of its kind.
+-- `units::open_y` meets its contract: the opening of its operation.
 use lib.IntN.{pos}
 use borrow.Author.Needs.{needs}
 use Rattle.units.proofs.open_y.Statement.{statement}
 use Rattle.units.proofs.open_y.Tie as tie
 
-numbers-requires : tie.Need-numbers-requires
-numbers-requires c κs = search needs
+given-y-requires : tie.Need-given-y-requires
+given-y-requires c κs = search needs
 
 slice-aggregate-open : tie.Need-slice-aggregate-open
 slice-aggregate-open c = search needs
@@ -32,13 +32,13 @@ open-requires : tie.Need-open-requires
 open-requires c κs = search needs
 
 returns : tie.Need-returns
-returns c = rw (c .before .before .before .before .before .before .before .before .numbers .ensures) at (c .«open» .ensures (pos 0))
+returns c = rw (c .before .before .before .before .before .before .before .before .given-y .ensures) at (c .«open» .ensures (pos 0))
 
 pub open-y-spec : {M : Type 1} → statement M
 open-y-spec =
     tie.close
     (tie.spec
-    numbers-requires
+    given-y-requires
     slice-aggregate-open
     slice-aggregate-open-2
     slice-aggregate-open-3

@@ -8,13 +8,13 @@ use lib.ListN.{length, length-set}
 use Rattle.definition.specs.Padding.{evenOnly, mixed, rowAt}
 use Rattle.padding.specs.Steps.{columns}
 use Rattle.padding.proofs.Columns.{lower-even}
-use Rattle.padding.proofs.Filled.{step-size, Whole, whole-none, whole-more, columns-more}
+use Rattle.padding.proofs.Filled.{step-size, WholeSteps, whole-none, whole-more, columns-more}
 use Rattle.padding.proofs.backup_row_luma.luma_mixed.Statement.{statement}
 use Rattle.padding.proofs.backup_row_luma.luma_mixed.Tie as tie
 
 abbrev Inv-loop : tie.InvT-loop
 Inv-loop dst₀ at row stride n ss-ver kind step j₀ dst j =
-    Whole (evenOnly ss-ver kind) j n ×
+    WholeSteps (evenOnly ss-ver kind) j n ×
     (length dst ≡ length dst₀) ×
     (dst ≡ columns dst₀ at j ss-ver kind (λ i. mixed ss-ver kind (rowAt row (pos 0)) (rowAt row (pos stride)) (pos i)))
 

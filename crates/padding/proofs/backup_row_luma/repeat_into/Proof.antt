@@ -6,13 +6,13 @@ use borrow.Author.Needs.{needs}
 use lib.ListN.{length, length-set}
 use Rattle.definition.specs.Padding.{evenOnly}
 use Rattle.padding.specs.Steps.{columns}
-use Rattle.padding.proofs.Filled.{step-size, Whole, whole-none, whole-more, columns-more}
+use Rattle.padding.proofs.Filled.{step-size, WholeSteps, whole-none, whole-more, columns-more}
 use Rattle.padding.proofs.backup_row_luma.repeat_into.Statement.{statement}
 use Rattle.padding.proofs.backup_row_luma.repeat_into.Tie as tie
 
 abbrev Inv-loop : tie.InvT-loop
 Inv-loop dst₀ at v ss-ver kind step j₀ dst j =
-    Whole (evenOnly ss-ver kind) j 4 × (length dst ≡ length dst₀) × (dst ≡ columns dst₀ at j ss-ver kind (λ _. v))
+    WholeSteps (evenOnly ss-ver kind) j 4 × (length dst ≡ length dst₀) × (dst ≡ columns dst₀ at j ss-ver kind (λ _. v))
 
 abbrev μ-loop : tie.MeasureT-loop
 μ-loop dst₀ at v ss-ver kind step j₀ dst j = 4 - j

@@ -1,4 +1,4 @@
--- `State::advance_n` meets its contract: the advance of its kind.
+-- `State::advance_n` meets its contract: the advance of its operation.
 use mathlib.Core.Path.{_≡_}
 use mir.Syntax.{w32}
 use mir.Val.{toZ, ofZ}

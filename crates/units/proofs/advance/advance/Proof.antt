@@ -6,12 +6,12 @@ use borrow.Author.Needs.{length-unmapped}
 use mir.Syntax.{w32}
 use mir.Val.{toZ, ofZ}
 use mir.Facts.{toZ-ofZ}
+use Rattle.definition.specs.Limits.{blockColumnLimit}
+use Rattle.definition.specs.Rows.{indexCount, stateBytes}
 use Rattle.definition.specs.Units.{Lent}
-use Rattle.operations.specs.Operations.{operationOf}
 use Rattle.units.specs.Lent.{unitLent}
-use Rattle.units.specs.Operations.{statusBy}
-use Rattle.units.specs.Advances.{Admitted}
-use Rattle.units.proofs.Admissions.{admitted}
+use Rattle.units.specs.Advances.{statusBy}
+use Rattle.units.proofs.Admissions.{Admitted, admitted}
 use Rattle.units.proofs.Advances.{declined, gone-all}
 use Rattle.units.proofs.Fits.{fit, sound-first}
 use borrow.Author.Needs.{needs}
@@ -22,16 +22,16 @@ use Rattle.units.proofs.advance.advance.Tie as tie
 abbrev lent : tie.Start → ℤ → Lent
 lent s q =
     let a = s .args in
-    unitLent (operationOf (a .op)) (a .left .now) (a .top .now) (a .bottom .now) (a .filters .now) (a .wide .now) (a .map .now) (a .subclass .now) (a .noskip .now) q
+    unitLent (a .op) (a .left .now) (a .top .now) (a .bottom .now) (a .filters .now) (a .wide .now) (a .map .now) (a .subclass .now) (a .noskip .now) q
     (a .luma .now) (a .luma-top .now) (a .luma-bottom .now) (a .skip .now)
 
 -- what a status of 0 says
-ready : (c : tie.Else1) → let s = c .before .before .before .before .before .before .before .before .before .before .before .before .before .before .before .before .before .before .before in let a = s .args in Admitted (operationOf (a .op)) (a .count) (a .s) (lent s (a .base-q)) (a .p .now)
+ready : (c : tie.Else1) → let s = c .before .before .before .before .before .before .before .before .before .before .before .before .before .before .before .before .before .before .before in let a = s .args in Admitted (a .op) (a .count) (a .s) (lent s (a .base-q)) (a .p .now)
 ready c =
     let s = c .before .before .before .before .before .before .before .before .before .before .before .before .before .before .before .before .before .before .before in
     let a = s .args in
-    admitted (operationOf (a .op)) (a .count) (a .s) (lent s (a .base-q)) (a .p .now)
-    (sym (c .before .advance-status .ensures (a .s .rows) ∙ ap (statusBy (operationOf (a .op)) (a .s)) (c .before .before .before .before .before .before .sizes .ensures (a .base-q))) ∙ c .if1 .left)
+    admitted (a .op) (a .count) (a .s) (lent s (a .base-q)) (a .p .now)
+    (sym (c .before .advance-status .ensures (a .s .rows) ∙ ap (statusBy (a .op) (a .s)) (c .before .before .before .before .before .before .sizes .ensures (a .base-q))) ∙ c .if1 .left)
 
 sizes-requires : tie.Need-sizes-requires
 sizes-requires c κs = search needs
@@ -46,8 +46,8 @@ returns : tie.Need-returns
 returns c =
     let s = c .before .before .before .before .before .before .before .before .before .before .before .before .before .before .before .before .before .before .before in
     let a = s .args in
-    declined (operationOf (a .op)) (lent s (a .base-q)) (a .s) (a .p .now) (a .count) (c .before .advance-status .result)
-    (c .before .advance-status .ensures (a .s .rows) ∙ ap (statusBy (operationOf (a .op)) (a .s)) (c .before .before .before .before .before .before .sizes .ensures (a .base-q))) (c .if1 .taken)
+    declined (a .op) (lent s (a .base-q)) (a .s) (a .p .now) (a .count) (c .before .advance-status .result)
+    (c .before .advance-status .ensures (a .s .rows) ∙ ap (statusBy (a .op) (a .s)) (c .before .before .before .before .before .before .sizes .ensures (a .base-q))) (c .if1 .taken)
 
 sub-least : tie.Need-sub-least
 sub-least c =
@@ -69,11 +69,11 @@ restored-rows-requires c κs =
     let f = ready (c .before .before .before .before .before .before .before .before .before .before) in
     let good = s .good .1 .0 .1 .1 .1 .1 .1 .1 in
     let q-is : toZ w32 (ofZ w32 (a .base-q)) ≡ a .base-q = toZ-ofZ (s .fits .base-q) in (
-      (s .pre .0, s .pre .1, omega (arith, f .done, c .before .before .before .before .before .before .before .least .ensures)),
+      (omega (arith, f .done, c .before .before .before .before .before .before .before .least .ensures)),
       (
-        rw q-is (fit (operationOf (a .op)) (a .s .numbers) (lent s (a .base-q)) (a .p .now) (f .fine)),
-        sound-first (operationOf (a .op)) (a .count) (a .s) (lent s (a .base-q)) (a .p .now) (length-unmapped _ (a .s .rows) 1080 (good .1 .1 .0 .1 .0 .1)) (length-unmapped _ (a .s .indices) 10 (good .1 .0 .1 .0 .1))
-            (length-unmapped _ (a .s .classes) 16 (good .0 .1 .0 .1)) f,
+        rw q-is (fit (a .op) (a .s .given) (lent s (a .base-q)) (a .p .now) (f .fine)),
+        sound-first (a .op) (a .count) (a .s) (lent s (a .base-q)) (a .p .now) (length-unmapped _ (a .s .rows) stateBytes (good .1 .1 .0 .1 .0 .1)) (length-unmapped _ (a .s .indices) indexCount (good .1 .0 .1 .0 .1))
+            (length-unmapped _ (a .s .classes) blockColumnLimit (good .0 .1 .0 .1)) f,
       ),
     )
 
@@ -91,7 +91,7 @@ returns-2 c =
     let n = c .before .before .before .before .before .before .before .before .before .before .least in
     let m = c .before .before .before .before .before .before .before .before .pieces-of-rows in
     let q-is : toZ w32 (ofZ w32 (a .base-q)) ≡ a .base-q = toZ-ofZ (s .fits .base-q) in
-    gone-all (operationOf (a .op)) (lent s (a .base-q)) (a .s) (a .p .now) (a .count) (n .result) (n .result) (m .result) (ready (c .before .before .before .before .before .before .before .before .before .before .before .before .before) .status) (n .ensures) refl (m .ensures) (rw q-is at (c .before .before .restored-rows .ensures (a .s .op)))
+    gone-all (a .op) (lent s (a .base-q)) (a .s) (a .p .now) (a .count) (n .result) (n .result) (m .result) (ready (c .before .before .before .before .before .before .before .before .before .before .before .before .before) .status) (n .ensures) refl (m .ensures) (rw q-is at (c .before .before .restored-rows .ensures (a .s .op)))
 
 pub advance-spec : {M : Type 1} → statement M
 advance-spec =

@@ -7,7 +7,9 @@ use lib.Seq.{sets}
 use mir.Syntax.{w32}
 use mir.Val.{toZ, ofZ}
 use mir.Facts.{toZ-ofZ}
-use Rattle.operations.proofs.Borders.{border-four}
+use Rattle.definition.specs.Rows.{rowBytes}
+use Rattle.definition.specs.Units.{border}
+use Rattle.operations.proofs.Chosen.{when-classed}
 use Rattle.history.specs.Ring.{set-low}
 use borrow.Author.Needs.{needs}
 use Rattle.units.proofs.classed.block_row.Statement.{statement}
@@ -19,8 +21,8 @@ add-padded-row c = search needs
 padded-row-requires : tie.Need-padded-row-requires
 padded-row-requires c κs =
     let s = c .before .before .before .before .before .before .before in
-    let b = border-four (s .args .op) (s .pre .0 .0) (s .pre .0 .1) in
-    (s .pre .1 .0, (omega (arith, b), omega (arith, b, s .pre .0 .2, s .pre .0 .3, s .pre .1 .0 .tall .fours)))
+    let b = when-classed (λ o. border o ≡ 4) refl refl (s .args .op) (s .pre .0 .0) in
+    (s .pre .1 .0, (omega (arith, b), omega (arith, b, s .pre .0 .1, s .pre .0 .2, s .pre .1 .0 .own .tall .fours)))
 
 put-row-requires : tie.Need-put-row-requires
 put-row-requires c κs = search needs
@@ -32,14 +34,14 @@ classes-of-row-requires : tie.Need-classes-of-row-requires
 classes-of-row-requires c κs =
     let s = c .before .before .before .before .before .before .before .before .before .before .before .before .before in
     let f = s .pre .1 .0 in
-    ((f .wide, f .tall, s .pre .0 .2, s .pre .0 .4), (λ j _. set-low (s .args .indices .now) 9 9 9 (omega arith) (s .pre .1 .1 .0) j, s .pre .1 .1 .1))
+    ((f .own .wide, f .own .tall, s .pre .0 .1, s .pre .0 .3), (λ j _. set-low (s .args .indices .now) 9 9 9 (omega arith) (s .pre .1 .1 .0) j, s .pre .1 .1 .1))
 
 returns : tie.Need-returns
 returns c =
     let s = c .before .before .before .before .before .before .before .before .before .before .before .before .before .before in
     let a = s .args in
     let q-is : toZ w32 (ofZ w32 (a .base-q)) ≡ a .base-q = toZ-ofZ (s .fits .base-q) in
-    ((c .before .before .before .before .put-row .ensures ∙ ap (λ (row : List ℕ). sets (a .rows .now) (9 * 76) row) (c .before .before .before .before .before .before .padded-row .ensures), refl), rw q-is at (c .classes-of-row .ensures))
+    ((c .before .before .before .before .put-row .ensures ∙ ap (λ (row : List ℕ). sets (a .rows .now) (9 * rowBytes) row) (c .before .before .before .before .before .before .padded-row .ensures), refl), rw q-is at (c .classes-of-row .ensures))
 
 pub block-row-spec : {M : Type 1} → statement M
 block-row-spec =

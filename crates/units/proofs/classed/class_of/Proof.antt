@@ -4,6 +4,7 @@ use Prim.Native.Nat.{ℕ, _*_, _<_}
 use lib.IntN.{ℤ}
 use lib.ListN.{length, getD}
 use mir.Facts.{toZ-ofZ}
+use Rattle.definition.specs.Limits.{mapSize}
 use Rattle.definition.specs.ClassIndex.{skipSum, indexOf}
 use Rattle.units.proofs.Classes.{index-low, placed-is, placed-low, entry-low}
 use borrow.Author.Needs.{needs}
@@ -17,7 +18,7 @@ cast-index : tie.Need-cast-index
 cast-index c = search needs
 
 -- the index that was answered
-low : (c : tie.After-class-of-features) → c .class-of-features .result .index < 4096
+low : (c : tie.After-class-of-features) → c .class-of-features .result .index < mapSize
 low c =
     let a = c .before .before .before .before .args in
     rw (c .class-of-features .ensures .1) (placed-low (length (a .noskip .now)) (a .bx) (a .by) (a .bh) _ (index-low _ _ _ _ _))

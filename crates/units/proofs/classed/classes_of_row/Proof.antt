@@ -9,17 +9,17 @@ use lib.Seq.{sets}
 use mir.Syntax.{w32}
 use mir.Val.{toZ, ofZ}
 use mir.Facts.{toZ-ofZ}
-use Rattle.definition.specs.Rows.{tab}
+use Rattle.definition.specs.Blocks.{side}
+use Rattle.definition.specs.Limits.{blockColumnLimit}
+use Rattle.definition.specs.Rows.{tab, stateBytes}
 use Rattle.definition.specs.ClassIndex.{skipSum, indexOf}
 use Rattle.features.specs.Features.{featureAt}
 use Rattle.laws.proofs.Lists.{sets-more, tab-cong}
-use Rattle.refusals.specs.Given.{givenOf}
-use Rattle.units.specs.Windows.{ring}
 use Rattle.units.specs.Lent.{classLent}
-use Rattle.units.specs.Operations.{classAt}
 use Rattle.units.proofs.Classes.{classBy, class-is, feature-at}
 use Rattle.units.proofs.classed.classes_of_row.Statement.{statement}
 use Rattle.units.proofs.classed.classes_of_row.Tie as tie
+use Rattle.units.specs.Step.{ring, classAt}
 
 abbrev Inv-loop : tie.InvT-loop
 Inv-loop done rows indices noskip base-q map subclass classes₀ n by bh vertical falling rising bx₀ classes bx =
@@ -40,13 +40,13 @@ loop-holds c =
     let s = c .before .before .before .before .before .before .before .before .before .before in
     let a = s .args in
     let e = c .before .before .before .row-features .ensures in
-    let n : length (a .rows .now) ≡ 1080 = omega arith in
-    let few : a .g .w / 4 ≤ 16 = omega (arith, s .pre .0 .0 .high) in (
+    let n : length (a .rows .now) ≡ stateBytes = omega arith in
+    let few : a .g .w / side ≤ blockColumnLimit = omega (arith, s .pre .0 .0 .high) in (
       omega arith,
       refl,
-      λ i h. feature-at (length (a .rows .now)) (a .indices .now) (a .g .w / 4) (c .before .before .before .row-features .result .status) i _ _ (omega arith) (s .pre .1 .0) few h (e .0) (e .1 .0),
-      λ i h. feature-at (length (a .rows .now)) (a .indices .now) (a .g .w / 4) (c .before .before .before .row-features .result .status) i _ _ (omega arith) (s .pre .1 .0) few h (e .0) (e .1 .1 .0),
-      λ i h. feature-at (length (a .rows .now)) (a .indices .now) (a .g .w / 4) (c .before .before .before .row-features .result .status) i _ _ (omega arith) (s .pre .1 .0) few h (e .0) (e .1 .1 .1),
+      λ i h. feature-at (length (a .rows .now)) (a .indices .now) (a .g .w / side) (c .before .before .before .row-features .result .status) i _ _ (omega arith) (s .pre .1 .0) few h (e .0) (e .1 .0),
+      λ i h. feature-at (length (a .rows .now)) (a .indices .now) (a .g .w / side) (c .before .before .before .row-features .result .status) i _ _ (omega arith) (s .pre .1 .0) few h (e .0) (e .1 .1 .0),
+      λ i h. feature-at (length (a .rows .now)) (a .indices .now) (a .g .w / side) (c .before .before .before .row-features .result .status) i _ _ (omega arith) (s .pre .1 .0) few h (e .0) (e .1 .1 .1),
     )
 
 mul-class-of : tie.Need-mul-class-of Inv-loop μ-loop
@@ -88,14 +88,14 @@ loop-again c =
     let a = c .before .before .before .before .before .before .before .before .before .before .before .before .before .args in
     let l = c .before .before .loop in
     let h = c .before .loop-test .taken in
-    let f = classBy (a .rows .now) (a .indices .now) (a .noskip .now) (toZ w32 (ofZ w32 (a .base-q))) (a .map .now) (a .subclass .now) (a .done / 4) (a .g .h / 4) in
+    let f = classBy (a .rows .now) (a .indices .now) (a .noskip .now) (toZ w32 (ofZ w32 (a .base-q))) (a .map .now) (a .subclass .now) (a .done / side) (a .g .h / side) in
     let v = l .inv .2 (l .bx) h in
     let d = l .inv .3 (l .bx) h in
     let r = l .inv .4 (l .bx) h in
     let e = c .class-of .ensures ∙
     (λ i.
     getD (a .subclass .now)
-    (getD (a .map .now) (indexOf (v i) (d i) (r i) (toZ w32 (ofZ w32 (a .base-q))) (7 * skipSum (a .noskip .now) (a .g .h / 4) (l .bx) (a .done / 4))) 0) 0) in
+    (getD (a .map .now) (indexOf (v i) (d i) (r i) (toZ w32 (ofZ w32 (a .base-q))) (7 * skipSum (a .noskip .now) (a .g .h / side) (l .bx) (a .done / side))) 0) 0) in
     (omega arith, rw (l .inv .1, e) (rw (zero-add (l .bx)) at (sets-more (l .bx) (a .classes .now) 0 f)), l .inv .2, l .inv .3, l .inv .4)
 
 returns : tie.Need-returns Inv-loop μ-loop
@@ -103,15 +103,15 @@ returns c =
     let s = c .before .before .before .before .before .before .before .before .before .before .before .before in
     let a = s .args in
     let l = c .before .loop in
-    let e : l .bx ≡ a .g .w / 4 = omega arith in
+    let e : l .bx ≡ a .g .w / side = omega arith in
     let q-is : toZ w32 (ofZ w32 (a .base-q)) ≡ a .base-q = toZ-ofZ (s .fits .base-q) in
-    let f : ℤ → ℕ → ℕ = λ q. classBy (a .rows .now) (a .indices .now) (a .noskip .now) q (a .map .now) (a .subclass .now) (a .done / 4) (a .g .h / 4) in
+    let f : ℤ → ℕ → ℕ = λ q. classBy (a .rows .now) (a .indices .now) (a .noskip .now) q (a .map .now) (a .subclass .now) (a .done / side) (a .g .h / side) in
     l .inv .1 ∙
     (λ i. sets (a .classes .now) 0 (tab (e i) (f (q-is i)))) ∙
     ap (sets (a .classes .now) 0)
-    (tab-cong (a .g .w / 4) (f (a .base-q))
-    (classAt (givenOf (a .g)) (classLent (a .noskip .now) (a .map .now) (a .subclass .now) (a .base-q)) (ring (a .rows .now) (a .indices .now) 0) (a .done))
-    (λ bx h. class-is (givenOf (a .g)) (a .rows .now) (a .indices .now) (a .noskip .now) (a .map .now) (a .subclass .now) (a .base-q) 0 (a .done) bx))
+    (tab-cong (a .g .w / side) (f (a .base-q))
+    (classAt (a .g) (classLent (a .noskip .now) (a .map .now) (a .subclass .now) (a .base-q)) (ring (a .rows .now) (a .indices .now) 0) (a .done))
+    (λ bx h. class-is (a .g) (a .rows .now) (a .indices .now) (a .noskip .now) (a .map .now) (a .subclass .now) (a .base-q) 0 (a .done) bx))
 
 pub classes-of-row-spec : {M : Type 1} → statement M
 classes-of-row-spec =

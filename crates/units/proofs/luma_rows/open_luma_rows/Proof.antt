@@ -1,14 +1,14 @@
 -- `units::luma_rows::open_luma_rows` meets its contract. The loop's invariant: the rows before n are filled, behind the chroma rows as they were.
 use mathlib.Core.Path.{_≡_}
 use mathlib.Core.List.{_++_}
-use Prim.Native.Nat.{_-_, _≤_}
+use Prim.Native.Nat.{_-_, _≤_, _*_}
 use native.Mathlib.Omega.{arith}
 use lib.ListN.{take, replicate}
-use Rattle.definition.specs.Units.{chroma}
+use Rattle.definition.specs.Rows.{lumaRowBytes, lumaRowsAt}
+use Rattle.definition.specs.declared.Operation.the-variants.{Chroma}
 use Rattle.model.specs.Rows.{firstRow}
 use Rattle.model.specs.Opening.{filledRows}
 use Rattle.model.specs.LumaRows.{lumaPadRow}
-use Rattle.refusals.specs.Given.{givenOf}
 use Rattle.units.specs.Lent.{lumaRowsLent}
 use Rattle.units.proofs.TwoLists.{front-size, behind-none, behind-more}
 use Rattle.units.proofs.luma_rows.open_luma_rows.Statement.{statement}
@@ -16,7 +16,7 @@ use Rattle.units.proofs.luma_rows.open_luma_rows.Tie as tie
 
 abbrev Inv-loop : tie.InvT-loop
 Inv-loop g luma luma-top luma-bottom rows₀ n₀ rows n =
-    (n₀ ≤ n) × (n ≤ 4) × (rows ≡ take 380 rows₀ ++ filledRows 140 (firstRow chroma (givenOf g)) (lumaPadRow (givenOf g) (lumaRowsLent luma luma-top luma-bottom)) (replicate 700 0) n)
+    (n₀ ≤ n) × (n ≤ 4) × (rows ≡ take lumaRowsAt rows₀ ++ filledRows lumaRowBytes (firstRow Chroma g) (lumaPadRow g (lumaRowsLent luma luma-top luma-bottom)) (replicate (5 * lumaRowBytes) 0) n)
 
 abbrev μ-loop : tie.MeasureT-loop
 μ-loop g luma luma-top luma-bottom rows₀ n₀ rows n = 4 - n
@@ -27,7 +27,7 @@ first-row-requires c κs = tt
 loop-holds : tie.Need-loop-holds Inv-loop μ-loop
 loop-holds c =
     let s = c .before .before .before .before in
-    (omega arith, omega arith, behind-none _ _ _ (s .args .rows .now) (replicate 700 0) 380 (c .first-row .result) (s .pre .1) (omega arith))
+    (omega arith, omega arith, behind-none _ _ _ (s .args .rows .now) (replicate (5 * lumaRowBytes) 0) lumaRowsAt (c .first-row .result) (s .pre .1) (omega arith))
 
 padded-luma-row-requires : tie.Need-padded-luma-row-requires Inv-loop μ-loop
 padded-luma-row-requires c κs = (c .before .before .before .before .before .before .pre .0, (omega arith, omega arith))
@@ -47,7 +47,7 @@ loop-again c =
     let s = c .before .before .before .before .before .before .before .before .before in (
       omega arith,
       omega arith,
-      behind-more _ _ _ (s .args .rows .now) (replicate 700 0) 380 (i .n) (front-size (s .args .rows .now) 380 700 (s .pre .1) (omega arith)) (omega arith) (i .inv .2)
+      behind-more _ _ _ (s .args .rows .now) (replicate (5 * lumaRowBytes) 0) lumaRowsAt (i .n) (front-size (s .args .rows .now) lumaRowsAt (5 * lumaRowBytes) (s .pre .1) (omega arith)) (omega arith) (i .inv .2)
           (c .before .before .padded-luma-row .ensures) (c .put-luma-row .ensures),
     )
 

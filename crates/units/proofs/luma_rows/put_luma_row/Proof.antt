@@ -5,17 +5,17 @@ use native.Mathlib.Omega.{arith}
 use lib.ListN.{length, getD}
 use lib.Seq.{sets}
 use borrow.Author.Needs.{needs}
-use Rattle.definition.specs.Rows.{tab}
+use Rattle.definition.specs.Rows.{tab, lumaRowBytes, lumaRowsAt}
 use Rattle.laws.proofs.Lists.{sets-more}
 use Rattle.units.proofs.Rings.{tab-same}
 use Rattle.units.proofs.luma_rows.put_luma_row.Statement.{statement}
 use Rattle.units.proofs.luma_rows.put_luma_row.Tie as tie
 
 abbrev Inv-loop : tie.InvT-loop
-Inv-loop rows₀ slot row base j₀ rows j = (j ≤ 140) × (rows ≡ sets rows₀ base (tab j (λ i. getD row i 0)))
+Inv-loop rows₀ slot row base j₀ rows j = (j ≤ lumaRowBytes) × (rows ≡ sets rows₀ base (tab j (λ i. getD row i 0)))
 
 abbrev μ-loop : tie.MeasureT-loop
-μ-loop rows₀ slot row base j₀ rows j = 140 - j
+μ-loop rows₀ slot row base j₀ rows j = lumaRowBytes - j
 
 mul-base : tie.Need-mul-base Inv-loop μ-loop
 mul-base c = search needs
@@ -45,14 +45,14 @@ loop-again : tie.Need-loop-again Inv-loop μ-loop
 loop-again c =
     let i = c .before .loop in
     let a = c .before .before .args in
-    (omega arith, rw (i .inv .1) (sets-more (i .j) (a .rows .now) (380 + a .slot * 140) (λ k. getD (a .t3) k 0)))
+    (omega arith, rw (i .inv .1) (sets-more (i .j) (a .rows .now) (lumaRowsAt + a .slot * lumaRowBytes) (λ k. getD (a .t3) k 0)))
 
 returns : tie.Need-returns Inv-loop μ-loop
 returns c =
     let a = c .before .before .args in
-    let e : c .before .loop .j ≡ 140 = omega arith in
-    let n : length (a .t3) ≡ 140 = search needs in
-    (rw e at (c .before .loop .inv .1)) ∙ ap (sets (a .rows .now) (380 + a .slot * 140)) (tab-same 140 (a .t3) n)
+    let e : c .before .loop .j ≡ lumaRowBytes = omega arith in
+    let n : length (a .t3) ≡ lumaRowBytes = search needs in
+    (rw e at (c .before .loop .inv .1)) ∙ ap (sets (a .rows .now) (lumaRowsAt + a .slot * lumaRowBytes)) (tab-same lumaRowBytes (a .t3) n)
 
 pub put-luma-row-spec : {M : Type 1} → statement M
 put-luma-row-spec =

@@ -1,13 +1,22 @@
 -- `units::luma_rows::row_from` meets its contract: the padding is not refused.
-use mathlib.Core.Path.{_∙_}
+use mathlib.Core.Path.{_≡_, _∙_, ap}
+use Prim.Native.Nat.{ℕ, _*_}
+use native.Mathlib.Nat.{mul-le-mul}
+use native.Mathlib.Omega.{arith}
 use borrow.Author.Needs.{needs}
-use Rattle.refusals.specs.Given.{givenOf}
+use Rattle.operations.proofs.Borders.{step-is}
+use Rattle.units.specs.LumaFrom.{lumaWidth}
 use Rattle.units.proofs.LumaSources.{from-served}
 use Rattle.units.proofs.luma_rows.row_from.Statement.{statement}
 use Rattle.units.proofs.luma_rows.row_from.Tie as tie
 
-scaled-requires : tie.Need-scaled-requires
-scaled-requires c κs = search needs
+luma-step-requires : tie.Need-luma-step-requires
+luma-step-requires c κs = search needs
+
+mul-w : tie.Need-mul-w
+mul-w c =
+    let s = c .before .before .before .before in
+    record { fits = omega (arith, mul-le-mul (s .pre .0 .0) (c .before .luma-step .ensures .2)) }
 
 slice-aggregate-backup-row-luma-8bpc : tie.Need-slice-aggregate-backup-row-luma-8bpc
 slice-aggregate-backup-row-luma-8bpc c = search needs
@@ -17,14 +26,18 @@ backup-row-luma-8bpc-requires c κs = search needs
 
 returns : tie.Need-returns
 returns c =
-    let s = c .before .before .before .before .before .before in
-    c .before .backup-row-luma-8bpc .ensures .1 ∙ from-served (givenOf (s .args .g)) _ _ _ (c .before .before .before .scaled .ensures) (s .pre .1)
+    let t = c .before .before .before .before in
+    let s = t .before .before .before in
+    let w : s .args .g .w * t .luma-step .result ≡ lumaWidth (s .args .g) =
+    ap (λ (n : ℕ). s .args .g .w * n) (t .luma-step .ensures .0 ∙ step-is (s .args .g .«ss_hor») (s .pre .0 .1)) in
+    c .before .backup-row-luma-8bpc .ensures .1 ∙ from-served (s .args .g) _ _ _ w (s .pre .1)
 
 pub row-from-spec : {M : Type 1} → statement M
 row-from-spec =
     tie.close
     (tie.spec
-    scaled-requires
+    luma-step-requires
+    mul-w
     slice-aggregate-backup-row-luma-8bpc
     backup-row-luma-8bpc-requires
     returns)

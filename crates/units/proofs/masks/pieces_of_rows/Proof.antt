@@ -3,13 +3,14 @@ use mathlib.Core.Path.{_≡_, sym, _∙_}
 use Prim.Native.Nat.{_+_, _*_, _-_, _≤_}
 use native.Mathlib.Omega.{arith}
 use borrow.Author.Needs.{needs}
+use Rattle.definition.specs.Limits.{blockColumnLimit}
 use Rattle.definition.specs.Blocks.{maskAt, clearBelow, piecesOf}
 use Rattle.units.proofs.Pieces.{pieces-none, pieces-more, row-pieces, clear-low}
 use Rattle.units.proofs.masks.pieces_of_rows.Statement.{statement}
 use Rattle.units.proofs.masks.pieces_of_rows.Tie as tie
 
 abbrev Inv-loop : tie.InvT-loop
-Inv-loop skip bw k n pieces₀ i₀ pieces i = (i ≤ n) × (pieces ≤ 16 * i) × (pieces ≡ piecesOf skip bw k i)
+Inv-loop skip bw k n pieces₀ i₀ pieces i = (i ≤ n) × (pieces ≤ blockColumnLimit * i) × (pieces ≡ piecesOf skip bw k i)
 
 abbrev μ-loop : tie.MeasureT-loop
 μ-loop skip bw k n pieces₀ i₀ pieces i = n - i

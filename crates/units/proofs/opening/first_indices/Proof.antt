@@ -1,11 +1,14 @@
--- `opening::first_indices` meets its contract, by the kind of unit.
-use Rattle.operations.specs.Operations.{operationOf}
+-- `opening::first_indices` meets its contract, by the operation.
 use Rattle.model.specs.Opening.{openRing}
-use Rattle.units.proofs.OfKind.{not-chroma}
+use mathlib.Core.Path.{sym, _∙_}
+use Rattle.operations.proofs.Chosen.{chroma-is}
 use Rattle.units.proofs.Openings.{first-indices}
 use borrow.Author.Needs.{needs}
 use Rattle.units.proofs.opening.first_indices.Statement.{statement}
 use Rattle.units.proofs.opening.first_indices.Tie as tie
+
+is-chroma-requires : tie.Need-is-chroma-requires
+is-chroma-requires c κs = search needs
 
 open-indices-requires : tie.Need-open-indices-requires
 open-indices-requires c κs = search needs
@@ -13,16 +16,17 @@ open-indices-requires c κs = search needs
 returns : tie.Need-returns
 unfolding openRing
 returns c =
-    λ l p. rw (c .before .if1 .taken) (c .open-indices .ensures)
+    let s = c .before .before .before in
+    λ l p. rw (chroma-is (s .args .op) (sym (c .before .before .is-chroma .ensures) ∙ c .before .if1 .taken)) (c .open-indices .ensures)
 
 open-indices-requires-2 : tie.Need-open-indices-requires-2
 open-indices-requires-2 c κs = search needs
 
 returns-2 : tie.Need-returns-2
 returns-2 c =
-    let s = c .before .before in
-    λ l p. first-indices (operationOf (s .args .op)) l (not-chroma (s .args .op) (s .pre .0) (s .pre .1) (c .before .if1 .left)) (s .args .g) p (c .open-indices2 .ensures)
+    let s = c .before .before .before in
+    λ l p. first-indices (s .args .op) l (sym (c .before .before .is-chroma .ensures) ∙ c .before .if1 .left) (s .args .g) p (c .open-indices2 .ensures)
 
 pub first-indices-spec : {M : Type 1} → statement M
 first-indices-spec =
-    tie.close (tie.spec open-indices-requires returns open-indices-requires-2 returns-2)
+    tie.close (tie.spec is-chroma-requires open-indices-requires returns open-indices-requires-2 returns-2)

@@ -4,8 +4,6 @@ use lib.IntN.{ℤ, pos}
 use Rattle.definition.specs.Units.{Lent}
 use Rattle.definition.specs.Refusals.{sizesOf, unitStatus}
 use Rattle.model.specs.Fine.{fine}
-use Rattle.operations.specs.Operations.{operationOf}
-use Rattle.refusals.specs.Given.{givenOf}
 use Rattle.units.specs.Lent.{unitLent}
 use Rattle.units.proofs.Fits.{fit}
 use Rattle.units.proofs.Openings.{begun-none, begun-first}
@@ -17,7 +15,7 @@ use Rattle.units.proofs.opening.open.Tie as tie
 abbrev lent : tie.Start → ℤ → Lent
 lent s q =
     let a = s .args in
-    unitLent (operationOf (a .op)) (a .left .now) (a .top .now) (a .bottom .now) (a .filters .now) (a .wide .now) (a .map .now) (a .subclass .now) (a .noskip .now) q
+    unitLent (a .op) (a .left .now) (a .top .now) (a .bottom .now) (a .filters .now) (a .wide .now) (a .map .now) (a .subclass .now) (a .noskip .now) q
     (a .luma .now) (a .luma-top .now) (a .luma-bottom .now) (a .skip .now)
 
 sizes-requires : tie.Need-sizes-requires
@@ -33,21 +31,21 @@ returns : tie.Need-returns
 returns c =
     let s = c .before .before .before .before .before .before .before .before .before .before .before .before .before .before .before in
     let a = s .args in
-    λ q. begun-none (operationOf (a .op)) (a .g) (lent s q) (a .p .now) (c .before .before .unit-status .ensures ∙ ap (unitStatus (operationOf (a .op)) (givenOf (a .g))) (c .before .before .before .sizes .ensures q)) (c .before .if1 .taken) (c .none .ensures)
+    λ q. begun-none (a .op) (a .g) (lent s q) (a .p .now) (c .before .before .unit-status .ensures ∙ ap (unitStatus (a .op) (a .g)) (c .before .before .before .sizes .ensures q)) (c .before .if1 .taken) (c .none .ensures)
 
 first-state-requires : tie.Need-first-state-requires
 first-state-requires c κs =
     let s = c .before .before .before .before .before .before .before .before .before .before .before .before .before .before in
     let a = s .args in
     let l = lent s (pos 0) in
-    let f = fit (operationOf (a .op)) (a .g) l (a .p .now) (fine (operationOf (a .op)) (givenOf (a .g)) (sizesOf (operationOf (a .op)) l (a .p .now)) (sym (c .before .unit-status .ensures ∙ ap (unitStatus (operationOf (a .op)) (givenOf (a .g))) (c .before .before .sizes .ensures (pos 0))) ∙ c .if1 .left)) in
-    (s .pre, (f .lie, λ e. f .luma (rw e)))
+    let f = fit (a .op) (a .g) l (a .p .now) (fine (a .op) (a .g) (sizesOf (a .op) l (a .p .now)) (sym (c .before .unit-status .ensures ∙ ap (unitStatus (a .op) (a .g)) (c .before .before .sizes .ensures (pos 0))) ∙ c .if1 .left)) in
+    (f .sources .lie, f .sources .luma)
 
 returns-2 : tie.Need-returns-2
 returns-2 c =
     let s = c .before .before .before .before .before .before .before .before .before .before .before .before .before .before .before in
     let a = s .args in
-    λ q. begun-first (operationOf (a .op)) (a .g) (lent s q) (a .p .now) (sym (c .before .before .unit-status .ensures ∙ ap (unitStatus (operationOf (a .op)) (givenOf (a .g))) (c .before .before .before .sizes .ensures q)) ∙ c .before .if1 .left) (c .first-state .ensures)
+    λ q. begun-first (a .op) (a .g) (lent s q) (a .p .now) (sym (c .before .before .unit-status .ensures ∙ ap (unitStatus (a .op) (a .g)) (c .before .before .before .sizes .ensures q)) ∙ c .before .if1 .left) (c .first-state .ensures)
 
 pub open-spec : {M : Type 1} → statement M
 open-spec =

@@ -3,6 +3,8 @@ use mathlib.Core.Path.{_≡_}
 use Prim.Native.Nat.{_*_, _≤_}
 use native.Mathlib.Omega.{arith}
 use lib.ListN.{length}
+use Rattle.definition.specs.Rows.{stateBytes}
+use Rattle.definition.specs.Limits.{widthLimit}
 use Rattle.units.proofs.Runs.{chroma-written}
 use native.Mathlib.Nat.{mul-le-mul}
 use borrow.Author.Needs.{needs}
@@ -28,10 +30,10 @@ add-ns-wiener-uv-fir-run : tie.Need-add-ns-wiener-uv-fir-run
 add-ns-wiener-uv-fir-run c = search needs
 
 -- the luma column of x0
-luma-cols : (c : tie.After-ns-wiener-uv-fir-run-arg2) → c .before .before .before .args .x0 * c .before .before .before .args .step ≤ 64 * 2
+luma-cols : (c : tie.After-ns-wiener-uv-fir-run-arg2) → c .before .before .before .args .x0 * c .before .before .before .args .step ≤ widthLimit * 2
 luma-cols c =
     let r = c .before .before .before .pre .0 in
-    let l : c .before .before .before .args .x0 ≤ 64 = omega arith in
+    let l : c .before .before .before .args .x0 ≤ widthLimit = omega arith in
     mul-le-mul l (r .3)
 
 mul-ns-wiener-uv-fir-run : tie.Need-mul-ns-wiener-uv-fir-run
@@ -53,7 +55,7 @@ returns : tie.Need-returns
 returns c =
     let a = c .before .before .before .before .before .before .args in
     let r = c .before .before .before .before .before .before .pre in
-    let long : length (a .rows .now) ≡ 1080 = omega arith in
+    let long : length (a .rows .now) ≡ stateBytes = omega arith in
     chroma-written (a .p .now) (c .before .before .ns-wiener-uv-fir-run .last .0) (a .rows .now) (a .indices .now) (a .at) (a .x0) (a .x1) (r .0 .0) (r .0 .1) (omega arith) long (a .step) (a .filter .now) (c .before .before .before .before .before .before .pre .0 .3) (r .1)
     (c .before .before .ns-wiener-uv-fir-run .ensures .1)
 

@@ -2,6 +2,7 @@
 use mathlib.Core.Path.{_≡_}
 use native.Mathlib.Omega.{arith}
 use lib.ListN.{length}
+use Rattle.definition.specs.Rows.{stateBytes}
 use Rattle.units.proofs.Runs.{luma-written}
 use borrow.Author.Needs.{needs}
 use Rattle.units.proofs.restore.run_y.Statement.{statement}
@@ -38,7 +39,7 @@ returns : tie.Need-returns
 returns c =
     let a = c .before .before .before .before .before .before .args in
     let r = c .before .before .before .before .before .before .pre in
-    let long : length (a .rows .now) ≡ 1080 = omega arith in
+    let long : length (a .rows .now) ≡ stateBytes = omega arith in
     luma-written (a .p .now) (c .before .before .ns-wiener-fir-run .last .0) (a .rows .now) (a .indices .now) (a .at) (a .x0) (a .x1) (r .0 .0) (r .0 .1) (omega arith) long (a .filter .now) (r .1)
     (c .before .before .ns-wiener-fir-run .ensures .1)
 

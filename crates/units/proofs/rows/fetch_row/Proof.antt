@@ -3,7 +3,6 @@ use mathlib.Core.Path.{refl}
 use Prim.Native.Nat.{_+_}
 use native.Mathlib.Omega.{arith}
 use borrow.Author.Needs.{needs}
-use Rattle.operations.specs.Operations.{operationOf}
 use Rattle.operations.proofs.Borders.{border-high, border-low}
 use Rattle.units.proofs.Rings.{fetched-own, fetched-again}
 use Rattle.units.proofs.rows.fetch_row.Statement.{statement}
@@ -13,12 +12,12 @@ border-of-requires : tie.Need-border-of-requires
 border-of-requires c κs = search needs
 
 add-m : tie.Need-add-m
-add-m c = omega (arith, border-high (operationOf (c .before .before .before .before .before .args .op)))
+add-m c = omega (arith, border-high (c .before .before .before .before .before .args .op))
 
 add-is-own : tie.Need-add-is-own
 add-is-own c =
     let s = c .before .before .before .before .before in
-    omega (arith, border-high (operationOf (s .args .op)), s .pre .0 .tall .high)
+    omega (arith, border-high (s .args .op), s .pre .0 .own .tall .high)
 
 is-own-requires : tie.Need-is-own-requires
 is-own-requires c κs = search needs
@@ -26,22 +25,22 @@ is-own-requires c κs = search needs
 add-padded-row : tie.Need-add-padded-row
 add-padded-row c =
     let s = c .before .before .before .before .before .before .before in
-    omega (arith, border-high (operationOf (s .args .op)), s .pre .0 .tall .high)
+    omega (arith, border-high (s .args .op), s .pre .0 .own .tall .high)
 
 padded-row-requires : tie.Need-padded-row-requires
 padded-row-requires c κs = search needs
 
 put-row-requires : tie.Need-put-row-requires
-put-row-requires c κs = omega (arith, border-high (operationOf (c .before .before .before .before .before .before .before .before .before .args .op)))
+put-row-requires c κs = omega (arith, border-high (c .before .before .before .before .before .before .before .before .before .args .op))
 
 mul-indices : tie.Need-mul-indices
-mul-indices c = omega (arith, border-high (operationOf (c .before .before .before .before .before .before .before .before .before .before .args .op)))
+mul-indices c = omega (arith, border-high (c .before .before .before .before .before .before .before .before .before .before .args .op))
 
 element-write-indices : tie.Need-element-write-indices
-element-write-indices c = omega (arith, border-high (operationOf (c .before .before .before .before .before .before .before .before .before .before .args .op)))
+element-write-indices c = omega (arith, border-high (c .before .before .before .before .before .before .before .before .before .before .args .op))
 
 add-next-slot : tie.Need-add-next-slot
-add-next-slot c = omega (arith, border-high (operationOf (c .before .before .before .before .before .before .before .before .before .before .args .op)))
+add-next-slot c = omega (arith, border-high (c .before .before .before .before .before .before .before .before .before .before .args .op))
 
 next-slot-requires : tie.Need-next-slot-requires
 next-slot-requires c κs = search needs
@@ -56,22 +55,22 @@ returns c =
     (c .before .put-row .ensures) (c .next-slot .ensures)
 
 sub-before : tie.Need-sub-before
-sub-before c = omega (arith, border-low (operationOf (c .before .before .before .before .before .before .before .args .op)), border-high (operationOf (c .before .before .before .before .before .before .before .args .op)))
+sub-before c = omega (arith, border-low (c .before .before .before .before .before .before .before .args .op), border-high (c .before .before .before .before .before .before .before .args .op))
 
 mul-before : tie.Need-mul-before
-mul-before c = omega (arith, border-high (operationOf (c .before .before .before .before .before .before .before .args .op)))
+mul-before c = omega (arith, border-high (c .before .before .before .before .before .before .before .args .op))
 
 element-copy-out-before : tie.Need-element-copy-out-before
-element-copy-out-before c = omega (arith, border-high (operationOf (c .before .before .before .before .before .before .before .args .op)))
+element-copy-out-before c = omega (arith, border-high (c .before .before .before .before .before .before .before .args .op))
 
 mul-indices-2 : tie.Need-mul-indices-2
-mul-indices-2 c = omega (arith, border-high (operationOf (c .before .before .before .before .before .before .before .before .args .op)))
+mul-indices-2 c = omega (arith, border-high (c .before .before .before .before .before .before .before .before .args .op))
 
 element-write-indices-2 : tie.Need-element-write-indices-2
-element-write-indices-2 c = omega (arith, border-high (operationOf (c .before .before .before .before .before .before .before .before .args .op)))
+element-write-indices-2 c = omega (arith, border-high (c .before .before .before .before .before .before .before .before .args .op))
 
 add-next-slot-2 : tie.Need-add-next-slot-2
-add-next-slot-2 c = omega (arith, border-high (operationOf (c .before .before .before .before .before .before .before .before .args .op)))
+add-next-slot-2 c = omega (arith, border-high (c .before .before .before .before .before .before .before .before .args .op))
 
 next-slot-requires-2 : tie.Need-next-slot-requires-2
 next-slot-requires-2 c κs = search needs

@@ -4,11 +4,10 @@ use Prim.Native.Nat.{_+_, _*_, _-_, _≤_}
 use native.Mathlib.Omega.{arith}
 use lib.Seq.{sets}
 use borrow.Author.Needs.{needs}
+use Rattle.definition.specs.Rows.{rowBytes}
 use Rattle.definition.specs.Units.{border}
 use Rattle.model.specs.Rows.{first-low}
 use Rattle.model.specs.Opening.{filled}
-use Rattle.operations.specs.Operations.{operationOf}
-use Rattle.refusals.specs.Given.{givenOf}
 use Rattle.units.specs.Lent.{rowsLent}
 use Rattle.operations.proofs.Borders.{border-high}
 use Rattle.units.proofs.Rings.{filled-none, filled-more}
@@ -17,7 +16,7 @@ use Rattle.units.proofs.rows.open_rows.Tie as tie
 
 abbrev Inv-loop : tie.InvT-loop
 Inv-loop op g plane left top bottom e m rows₀ n₀ rows n =
-    (n₀ ≤ n) × (n ≤ m) × (rows ≡ filled (operationOf op) (givenOf g) (rowsLent left top bottom) plane rows₀ n)
+    (n₀ ≤ n) × (n ≤ m) × (rows ≡ filled op g (rowsLent left top bottom) plane rows₀ n)
 
 abbrev μ-loop : tie.MeasureT-loop
 μ-loop op g plane left top bottom e m rows₀ n₀ rows n = m - n
@@ -26,7 +25,7 @@ border-of-requires : tie.Need-border-of-requires Inv-loop μ-loop
 border-of-requires c κs = search needs
 
 add-m : tie.Need-add-m Inv-loop μ-loop
-add-m c = omega (arith, border-high (operationOf (c .before .before .before .before .before .args .op)))
+add-m c = omega (arith, border-high (c .before .before .before .before .before .args .op))
 
 first-row-requires : tie.Need-first-row-requires Inv-loop μ-loop
 first-row-requires c κs = search needs
@@ -35,7 +34,7 @@ loop-holds : tie.Need-loop-holds Inv-loop μ-loop
 loop-holds c =
     let a = c .before .before .before .before .before .before .args in (
       omega arith,
-      omega (arith, first-low (operationOf (a .op)) (givenOf (a .g))),
+      omega (arith, first-low (a .op) (a .g)),
       sym (filled-none _ _ _ _ _ (c .first-row .result) (omega arith)),
     )
 
@@ -43,10 +42,10 @@ padded-row-requires : tie.Need-padded-row-requires Inv-loop μ-loop
 padded-row-requires c κs = (c .before .before .before .before .before .before .before .before .pre, (omega arith, omega arith))
 
 put-row-requires : tie.Need-put-row-requires Inv-loop μ-loop
-put-row-requires c κs = omega (arith, border-high (operationOf (c .before .before .before .before .before .before .before .before .before .before .args .op)))
+put-row-requires c κs = omega (arith, border-high (c .before .before .before .before .before .before .before .before .before .before .args .op))
 
 add-n : tie.Need-add-n Inv-loop μ-loop
-add-n c = omega (arith, border-high (operationOf (c .before .before .before .before .before .before .before .before .before .before .before .args .op)))
+add-n c = omega (arith, border-high (c .before .before .before .before .before .before .before .before .before .before .before .args .op))
 
 loop-less : tie.Need-loop-less Inv-loop μ-loop
 loop-less c = omega arith
@@ -57,13 +56,13 @@ loop-again c =
       omega arith,
       omega arith,
       c .put-row .ensures ∙
-          ((λ k. sets (i .inv .2 k) (i .n * 76) (c .before .before .padded-row .ensures k)) ∙ sym (filled-more _ _ _ _ _ (i .n) (omega arith))),
+          ((λ k. sets (i .inv .2 k) (i .n * rowBytes) (c .before .before .padded-row .ensures k)) ∙ sym (filled-more _ _ _ _ _ (i .n) (omega arith))),
     )
 
 returns : tie.Need-returns Inv-loop μ-loop
 returns c =
     let a = c .before .before .before .before .before .before .before .before .args in
-    let e : c .before .loop .n ≡ border (operationOf (a .op)) + border (operationOf (a .op)) = omega arith in
+    let e : c .before .loop .n ≡ border (a .op) + border (a .op) = omega arith in
     rw e at (c .before .loop .inv .2)
 
 pub open-rows-spec : {M : Type 1} → statement M

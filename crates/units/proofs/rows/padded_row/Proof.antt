@@ -5,7 +5,7 @@ use native.Mathlib.Omega.{arith}
 use borrow.Author.Needs.{needs}
 use Rattle.definition.specs.Units.{border}
 use Rattle.model.specs.Rows.{padRow}
-use Rattle.operations.specs.Operations.{operationOf}
+use Rattle.units.proofs.Openings.{pad-lower}
 use Rattle.units.proofs.Sources.{top-inside, top-fits, top-is}
 use Rattle.units.proofs.rows.padded_row.Statement.{statement}
 use Rattle.units.proofs.rows.padded_row.Tie as tie
@@ -23,20 +23,20 @@ mul-saved-row : tie.Need-mul-saved-row
 mul-saved-row c =
     let f = c .before in
     let s = f .before .before .before .before .before .before .before in
-    omega (arith, top-inside (s .pre .0) (s .args .r - f .first-row .result) (omega arith))
+    omega (arith, top-inside (s .pre .0 .own) (s .pre .0 .above) (s .args .r - f .first-row .result) (omega arith))
 
 add-saved-row : tie.Need-add-saved-row
 add-saved-row c =
     let f = c .before .before in
     let s = f .before .before .before .before .before .before .before in
-    omega (arith, top-inside (s .pre .0) (s .args .r - f .first-row .result) (omega arith))
+    omega (arith, top-inside (s .pre .0 .own) (s .pre .0 .above) (s .args .r - f .first-row .result) (omega arith))
 
 saved-row-requires : tie.Need-saved-row-requires
 saved-row-requires c κs =
     let f = c .before .before in
     let b = f .before .before in
     let s = b .before .before .before .before .before in
-    top-fits (s .pre .0) (s .args .r - f .first-row .result) (b .border-of .ensures .0) (omega arith)
+    top-fits (s .pre .0 .own) (s .pre .0 .above) (s .args .r - f .first-row .result) (b .border-of .ensures .0) (omega arith)
 
 returns : tie.Need-returns
 returns c =
@@ -47,13 +47,16 @@ returns c =
     top-is _ _ _ _ (s .args .r) (b .border-of .ensures .0) (ap (λ (n : ℕ). s .args .r - n) (f .first-row .ensures)) (s .pre .1 .0) (omega arith)
 
 lower-row-requires : tie.Need-lower-row-requires
-lower-row-requires c κs = search needs
+lower-row-requires c κs =
+    let s = c .before .before .before .before .before .before in
+    ((s .pre .0 .own, s .pre .0 .below), omega (arith, c .before .border-of .ensures .0))
 
 returns-2 : tie.Need-returns-2
 returns-2 c =
     let s = c .before .before .before .before .before .before .before in
-    let d : s .args .r - c .before .before .border-of .result + border (operationOf (s .args .op)) ≡ s .args .r = omega arith in
-    c .lower-row .ensures ∙ ap (padRow _ _ _ _) d
+    let d : s .args .r - c .before .before .border-of .result + border (s .args .op) ≡ s .args .r = omega arith in
+    c .lower-row .ensures ∙
+    pad-lower (s .args .op) (s .args .g) (s .args .left .now) (s .args .top .now) (s .args .bottom .now) (s .args .plane .now) _ (omega arith) ∙ ap (padRow _ _ _ _) d
 
 pub padded-row-spec : {M : Type 1} → statement M
 padded-row-spec =

@@ -5,17 +5,17 @@ use native.Mathlib.Omega.{arith}
 use lib.ListN.{length, getD}
 use lib.Seq.{sets}
 use borrow.Author.Needs.{needs}
-use Rattle.definition.specs.Rows.{tab}
+use Rattle.definition.specs.Rows.{tab, rowBytes}
 use Rattle.laws.proofs.Lists.{sets-more}
 use Rattle.units.proofs.Rings.{tab-same}
 use Rattle.units.proofs.rows.put_row.Statement.{statement}
 use Rattle.units.proofs.rows.put_row.Tie as tie
 
 abbrev Inv-loop : tie.InvT-loop
-Inv-loop rows₀ slot row base j₀ rows j = (j ≤ 76) × (rows ≡ sets rows₀ base (tab j (λ i. getD row i 0)))
+Inv-loop rows₀ slot row base j₀ rows j = (j ≤ rowBytes) × (rows ≡ sets rows₀ base (tab j (λ i. getD row i 0)))
 
 abbrev μ-loop : tie.MeasureT-loop
-μ-loop rows₀ slot row base j₀ rows j = 76 - j
+μ-loop rows₀ slot row base j₀ rows j = rowBytes - j
 
 mul-base : tie.Need-mul-base Inv-loop μ-loop
 mul-base c = search needs
@@ -42,14 +42,14 @@ loop-again : tie.Need-loop-again Inv-loop μ-loop
 loop-again c =
     let i = c .before .loop in
     let a = c .before .before .args in
-    (omega arith, rw (i .inv .1) (sets-more (i .j) (a .rows .now) (a .slot * 76) (λ k. getD (a .t3) k 0)))
+    (omega arith, rw (i .inv .1) (sets-more (i .j) (a .rows .now) (a .slot * rowBytes) (λ k. getD (a .t3) k 0)))
 
 returns : tie.Need-returns Inv-loop μ-loop
 returns c =
     let a = c .before .before .args in
-    let e : c .before .loop .j ≡ 76 = omega arith in
-    let n : length (a .t3) ≡ 76 = search needs in
-    (rw e at (c .before .loop .inv .1)) ∙ ap (sets (a .rows .now) (a .slot * 76)) (tab-same 76 (a .t3) n)
+    let e : c .before .loop .j ≡ rowBytes = omega arith in
+    let n : length (a .t3) ≡ rowBytes = search needs in
+    (rw e at (c .before .loop .inv .1)) ∙ ap (sets (a .rows .now) (a .slot * rowBytes)) (tab-same rowBytes (a .t3) n)
 
 pub put-row-spec : {M : Type 1} → statement M
 put-row-spec =
