@@ -18,7 +18,7 @@ use Rattle.definition.specs.Card.{Meaning, unit, refused, meaning, joined, skip
 use Rattle.laws.proofs.Lists.{tab-cong}
 use Rattle.card_laws.specs.Sizes.{planeSize}
 use Rattle.card_laws.proofs.Planes.{front, drop-zeros}
-use Rattle.card_laws.proofs.Fine.{Fine, meaning-fine, refusing-above}
+use Rattle.card_laws.proofs.Readings.{RightlyRead, meaning-fine, refusing-above}
 use Rattle.card_reader.specs.Answers.{cardOf, filled}
 use Rattle.card_reader.specs.declared.Card.{Card}
 use Rattle.card_answer.specs.Answers.{Answers, textSize, planeOf, unitText}
@@ -62,7 +62,7 @@ pub record GoodCard (m : Meaning) : Type 0 where
   pub room : cardOf m .w * cardOf m .h ≤ length (cardOf m .rows)
   pub text : unitText (cardOf m .w) (cardOf m .h) (cardOf m .filter) (spread (cardOf m .skip)) (take (cardOf m .w * cardOf m .h) (cardOf m .rows)) ≡ printed m
 
-pub taken : (m : Meaning) → Fine m → cardOf m .status ≡ 0 → GoodCard m
+pub taken : (m : Meaning) → RightlyRead m → cardOf m .status ≡ 0 → GoodCard m
 unfolding cardOf printed unitText planeOf restoredPlane filtered
 taken (refused status) f e = absurd (omega (arith, refusing-above status f, e))
 taken (unit u at) g e =

@@ -1,4 +1,4 @@
 pub mod Several
 pub mod Planes
-pub mod Fine
+pub mod Readings
 pub mod Reach

@@ -15,7 +15,7 @@ use Rattle.definition.specs.Limits.{widthLimit, heightLimit, blockRowLimit}
 use Rattle.definition.specs.Card.{Reading, value, wrong, word, wordAt, sizeAt, filterAt, skipAt, rowsAt, opLine, wName, hName, edgesLine, joined, Meaning, unit, refused, listsAt, unitAt, ending}
 use Rattle.card_laws.specs.Sizes.{planeSize}
 use Rattle.card_laws.proofs.Planes.{drop-zeros}
-use Rattle.card_laws.proofs.Fine.{Fine, refusing-above}
+use Rattle.card_laws.proofs.Readings.{RightlyRead, refusing-above}
 use Rattle.card_reader.specs.declared.Line.{Line}
 use Rattle.card_reader.specs.declared.Line.the-variants.{Next, Wrong}
 use Rattle.card_reader.specs.Answers.{joins, filled, cardOf}
@@ -112,12 +112,12 @@ module _ (s : List ℕ) where
   stays-refused (unit u at) h = absurd (h refl)
   stays-refused (refused status) h = refl
 
-  pub bytes-left : (m : Meaning) → Fine m → cardOf m .status ≡ 0 → cardOf m .next ≢ length s → ending s m ≡ refused 14
+  pub bytes-left : (m : Meaning) → RightlyRead m → cardOf m .status ≡ 0 → cardOf m .next ≢ length s → ending s m ≡ refused 14
   unfolding cardOf
   bytes-left (unit u at) f z e = rw (ne-eqb at (length s) e)
   bytes-left (refused status) f z e = absurd (omega (arith, refusing-above status f, z))
 
-  pub ends-there : (m : Meaning) → Fine m → cardOf m .status ≡ 0 → cardOf m .next ≡ length s → ending s m ≡ m
+  pub ends-there : (m : Meaning) → RightlyRead m → cardOf m .status ≡ 0 → cardOf m .next ≡ length s → ending s m ≡ m
   unfolding cardOf
   ends-there (unit u at) f z e = rw (eq-eqb at (length s) e)
   ends-there (refused status) f z e = absurd (omega (arith, refusing-above status f, z))

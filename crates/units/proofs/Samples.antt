@@ -48,10 +48,10 @@ module _ (rows indices p : List ℕ) (filters wide set : List ℤ) (step at x0 x
   abbrev Written : Operation → (ℕ → ℤ) → List ℕ → Type 0
   Written op c q = q ≡ sets p (at + x0) (tab (x1 - x0) (λ i. unmasked limit8 op rows indices step c (x0 + i)))
 
-  abbrev Copied : Operation → Type 0
-  Copied op = (k : ℕ) → k < usedOf op → getD set k (pos 0) ≡ getD (filtersOf op filters wide) (from + k) (pos 0)
+  abbrev OfSet : Operation → Type 0
+  OfSet op = (k : ℕ) → k < usedOf op → getD set k (pos 0) ≡ getD (filtersOf op filters wide) (from + k) (pos 0)
 
-  pub run-is : (op : Operation) {q : List ℕ} → from ≡ setStart op cls → Copied op → Written op (coefficients set) q → Written op (setFor op (filtersOf op filters wide) cls) q
+  pub run-is : (op : Operation) {q : List ℕ} → from ≡ setStart op cls → OfSet op → Written op (coefficients set) q → Written op (setFor op (filtersOf op filters wide) cls) q
   run-is op f e w =
       w ∙
       (λ i.

@@ -1,7 +1,7 @@
 use lib.ListN.{length}
 use mathlib.Core.Path.{refl, ap}
 use Rattle.definition.specs.Card.{meaning}
-use Rattle.card_laws.proofs.Fine.{meaning-fine}
+use Rattle.card_laws.proofs.Readings.{meaning-fine}
 use Rattle.card_answer.proofs.Answered.{declined, GoodCard, taken, head-fits, answered, unit-answered}
 use borrow.Author.Needs.{needs}
 use Rattle.card_answer.proofs.answer_card.Statement.{statement}

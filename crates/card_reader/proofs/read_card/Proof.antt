@@ -1,6 +1,6 @@
 use mathlib.Core.Path.{sym, _∙_, ap}
 use Rattle.definition.specs.Card.{unitAt, meaning}
-use Rattle.card_laws.proofs.Fine.{unit-fine}
+use Rattle.card_laws.proofs.Readings.{unit-fine}
 use Rattle.card_reader.specs.Answers.{cardOf}
 use Rattle.card_reader.proofs.Meanings.{stays-refused, bytes-left, ends-there}
 use borrow.Author.Needs.{needs}

@@ -81,26 +81,26 @@ pub record Good (u : CardUnit) : Type 0 where
 abbrev pub refusing : ℕ → Bool
 refusing n = eqb n 1 || eqb n 2 || eqb n 14
 
-abbrev pub Fine : Meaning → Type 0
-Fine (unit u at) = Good u
-Fine (refused status) = refusing status ≡ true
+abbrev pub RightlyRead : Meaning → Type 0
+RightlyRead (unit u at) = Good u
+RightlyRead (refused status) = refusing status ≡ true
 
-after-fine : {A : Type 0} (P : A → Type 0) (r : Reading A) (more : A → ℕ → Meaning) → Holds P r → ((a : A) (p : ℕ) → P a → Fine (more a p)) → Fine (after r more)
+after-fine : {A : Type 0} (P : A → Type 0) (r : Reading A) (more : A → ℕ → Meaning) → Holds P r → ((a : A) (p : ℕ) → P a → RightlyRead (more a p)) → RightlyRead (after r more)
 after-fine P (value a p) more h k = k a p h
 after-fine P wrong more h k = refl
 
-cond-fine : (b : Bool) (m n : Meaning) → Fine m → (b ≡ false → Fine n) → Fine (cond b m n)
+cond-fine : (b : Bool) (m n : Meaning) → RightlyRead m → (b ≡ false → RightlyRead n) → RightlyRead (cond b m n)
 cond-fine true m n hm hn = hm
 cond-fine false m n hm hn = hn refl
 
-lists-fine : (s : List ℕ) (w h at : ℕ) → sized widthLimit w ≡ true → sized heightLimit h ≡ true → Fine (listsAt s w h at)
+lists-fine : (s : List ℕ) (w h at : ℕ) → sized widthLimit w ≡ true → sized heightLimit h ≡ true → RightlyRead (listsAt s w h at)
 unfolding listsAt Long Filled
 lists-fine s w h at ow oh =
     after-fine (Long 16) (filterAt s at) _ (filter-long s at) (λ filter p₁ lf.
     after-fine (λ _. Unit {0}) (skipAt s (h / side) p₁) _ (anything (skipAt s (h / side) p₁)) (λ skip p₂ _.
     after-fine (Filled w h) (rowsAt s w h p₂) _ (rows-filled s w h p₂) (λ rows p₃ lr. record { wide = ow; high = oh; filter = lf; rows = lr ∙ mul-comm h w })))
 
-pub unit-fine : (s : List ℕ) (at : ℕ) → Fine (unitAt s at)
+pub unit-fine : (s : List ℕ) (at : ℕ) → RightlyRead (unitAt s at)
 unfolding unitAt
 unit-fine s at =
     after-fine (λ _. Unit {0}) (wordAt s opLine at) _ (anything (wordAt s opLine at)) (λ _ p₁ _.
@@ -111,14 +111,14 @@ unit-fine s at =
     after-fine (λ _. Unit {0}) (wordAt s edgesLine p₃) _ (anything (wordAt s edgesLine p₃)) (λ _ p₄ _.
     lists-fine s w h p₄ (not-false _ bw) (not-false _ bh)))))))
 
-pub meaning-fine : (s : List ℕ) → Fine (meaning s)
+pub meaning-fine : (s : List ℕ) → RightlyRead (meaning s)
 unfolding meaning
 meaning-fine s = go (unitAt s 0) (unit-fine s 0)
   where
-    go : (m : Meaning) → Fine m → Fine (ending s m)
+    go : (m : Meaning) → RightlyRead m → RightlyRead (ending s m)
     go (unit u at) f = choose (eqb at (length s))
       where
-        choose : (b : Bool) → Fine (cond b (unit u at) (refused 14))
+        choose : (b : Bool) → RightlyRead (cond b (unit u at) (refused 14))
         choose true = f
         choose false = refl
     go (refused status) f = f
@@ -135,7 +135,7 @@ known n = eqb n 0 || refusing n
 pub card-status : (s : List ℕ) → known (statusOf (meaning s)) ≡ true
 card-status s = go (meaning s) (meaning-fine s)
   where
-    go : (m : Meaning) → Fine m → known (statusOf m) ≡ true
+    go : (m : Meaning) → RightlyRead m → known (statusOf m) ≡ true
     go (unit u at) f = refl
     go (refused status) f = or-true (eqb status 0) (refusing status) f
       where
