@@ -1,6 +1,6 @@
 -- Between which numbers a border lies, and a power of two by a side's subsampling.
-use mathlib.Core.Path.{_≡_, refl}
-use Prim.Native.Nat.{ℕ, zero, suc, _^_, _≤_, min}
+use mathlib.Core.Path.{_≡_, refl, _∙_, ap}
+use Prim.Native.Nat.{ℕ, zero, suc, _*_, _^_, _≤_, min}
 use native.Mathlib.Omega.{arith}
 use Rattle.definition.specs.declared.Operation.{Operation}
 use Rattle.definition.specs.declared.Operation.the-variants.{Luma, User, Pretrained, Chroma}
@@ -22,3 +22,7 @@ pub step-is : (ss : ℕ) → ss ≤ 1 → 2 ^ min ss 1 ≡ 2 ^ ss
 step-is zero h = refl
 step-is (suc zero) h = refl
 step-is (suc (suc n)) h = absurd (omega arith)
+
+-- .. of so many rows or columns
+pub steps-are : (n ss : ℕ) {r : ℕ} → ss ≤ 1 → r ≡ 2 ^ min ss 1 → n * r ≡ n * 2 ^ ss
+steps-are n ss h e = ap (λ (k : ℕ). n * k) (e ∙ step-is ss h)

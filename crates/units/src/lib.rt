@@ -373,22 +373,22 @@ pub fn open_c<'a>(
 ) -> Opened
     ensures { λ r. ⌜ Begun Chroma r (givenC w h edges stride lstride «p_off» «lpf_off» «lpf_bottom_off» «luma_off» «luma_top_off» «luma_bottom_off» «ss_hor» «ss_ver» «ds_flt») (chromaLent (now (left .entry)) (now (lpf .entry)) (now («lpf_bottom» .entry)) (now (filter .entry)) (now (luma .entry)) (now («luma_top» .entry)) (now («luma_bottom» .entry)) (now (skip .entry))) (now (p .entry)) ⌝ }
 {
-    let g = Given {
+    let g = opening::given_c(
         w,
         h,
         edges,
         stride,
-        luma_stride: lstride,
-        off: p_off,
-        top_off: lpf_off,
-        bottom_off: lpf_bottom_off,
+        lstride,
+        p_off,
+        lpf_off,
+        lpf_bottom_off,
         luma_off,
         luma_top_off,
         luma_bottom_off,
         ss_hor,
         ss_ver,
-        kind: ds_flt,
-    };
+        ds_flt,
+    );
     let no_sets = [0i16; 0];
     let no_bytes = [0u8; 0];
     let no_masks = [0u16; 0];

@@ -7,7 +7,7 @@ ghost use lib.IntN.{ℤ};
 ghost use lib.ListN.{length};
 ghost use Rattle.definition.specs.Units.{chromatic, Lent};
 ghost use Rattle.units.specs.Lent.{unitLent, chromaLent};
-ghost use Rattle.units.specs.Openings.{givenY, noneGiven, noState, openRings, openState, Begun};
+ghost use Rattle.units.specs.Openings.{givenC, givenY, noneGiven, noState, openRings, openState, Begun};
 ghost use Rattle.units.specs.Windows.{RowsLie, LumaLie};
 use crate::Opened;
 use crate::State;
@@ -153,6 +153,43 @@ pub fn open<'a>(
     }
 }
 
+// The numbers that a chroma unit is opened with.
+pub fn given_c(
+    w: usize,
+    h: usize,
+    edges: usize,
+    stride: usize,
+    luma_stride: usize,
+    off: usize,
+    top_off: usize,
+    bottom_off: usize,
+    luma_off: usize,
+    luma_top_off: usize,
+    luma_bottom_off: usize,
+    ss_hor: usize,
+    ss_ver: usize,
+    kind: usize,
+) -> Given
+    ensures { λ r. ⌜ r ≡ givenC w h edges stride «luma_stride» off «top_off» «bottom_off» «luma_off» «luma_top_off» «luma_bottom_off» «ss_hor» «ss_ver» kind ⌝ }
+{
+    Given {
+        w,
+        h,
+        edges,
+        stride,
+        luma_stride,
+        off,
+        top_off,
+        bottom_off,
+        luma_off,
+        luma_top_off,
+        luma_bottom_off,
+        ss_hor,
+        ss_ver,
+        kind,
+    }
+}
+
 // The numbers that a unit without luma rows is opened with: what it does not use is 0.
 pub fn given_y(
     w: usize,
@@ -165,20 +202,20 @@ pub fn given_y(
 ) -> Given
     ensures { λ r. ⌜ r ≡ givenY w h edges stride off «top_off» «bottom_off» ⌝ }
 {
-    Given {
+    given_c(
         w,
         h,
         edges,
         stride,
-        luma_stride: 0,
+        0,
         off,
         top_off,
         bottom_off,
-        luma_off: 0,
-        luma_top_off: 0,
-        luma_bottom_off: 0,
-        ss_hor: 0,
-        ss_ver: 0,
-        kind: 0,
-    }
+        0,
+        0,
+        0,
+        0,
+        0,
+        0,
+    )
 }

@@ -5,6 +5,7 @@ ghost use Rattle.units.specs.Openings.{givenY, givenC};
 ghost use Rattle.whole.specs.Whole.{Whole};
 use definition::Given;
 use definition::Operation;
+use units::opening::given_c;
 use units::opening::given_y;
 
 #[repr(C)]
@@ -242,22 +243,22 @@ pub fn ns_wiener_single_uv_8bpc<'a>(
 ) -> Restored
     ensures { λ r. ⌜ Whole Chroma r (givenC w h edges stride lstride «p_off» «lpf_off» «lpf_bottom_off» «luma_off» «luma_top_off» «luma_bottom_off» «ss_hor» «ss_ver» «ds_flt») (chromaLent (now (left .entry)) (now (lpf .entry)) (now («lpf_bottom» .entry)) (now (filter .entry)) (now (luma .entry)) (now («luma_top» .entry)) (now («luma_bottom» .entry)) (now (skip .entry))) (now (p .entry)) (now (p .exit)) ⌝ }
 {
-    let g = Given {
+    let g = given_c(
         w,
         h,
         edges,
         stride,
-        luma_stride: lstride,
-        off: p_off,
-        top_off: lpf_off,
-        bottom_off: lpf_bottom_off,
+        lstride,
+        p_off,
+        lpf_off,
+        lpf_bottom_off,
         luma_off,
         luma_top_off,
         luma_bottom_off,
         ss_hor,
         ss_ver,
-        kind: ds_flt,
-    };
+        ds_flt,
+    );
     let no_sets = [0i16; 0];
     let no_bytes = [0u8; 0];
     let no_masks = [0u16; 0];

@@ -1,11 +1,9 @@
 -- `units::luma_rows::row_from` meets its contract: the padding is not refused.
-use mathlib.Core.Path.{_≡_, _∙_, ap}
-use Prim.Native.Nat.{ℕ, _*_}
+use mathlib.Core.Path.{_∙_}
 use native.Mathlib.Nat.{mul-le-mul}
 use native.Mathlib.Omega.{arith}
 use borrow.Author.Needs.{needs}
-use Rattle.operations.proofs.Borders.{step-is}
-use Rattle.units.specs.LumaFrom.{lumaWidth}
+use Rattle.operations.proofs.Borders.{steps-are}
 use Rattle.units.proofs.LumaSources.{from-served}
 use Rattle.units.proofs.luma_rows.row_from.Statement.{statement}
 use Rattle.units.proofs.luma_rows.row_from.Tie as tie
@@ -28,8 +26,7 @@ returns : tie.Need-returns
 returns c =
     let t = c .before .before .before .before in
     let s = t .before .before .before in
-    let w : s .args .g .w * t .luma-step .result ≡ lumaWidth (s .args .g) =
-    ap (λ (n : ℕ). s .args .g .w * n) (t .luma-step .ensures .0 ∙ step-is (s .args .g .«ss_hor») (s .pre .0 .1)) in
+    let w = steps-are (s .args .g .w) (s .args .g .«ss_hor») (s .pre .0 .1) (t .luma-step .ensures .0) in
     c .before .backup-row-luma-8bpc .ensures .1 ∙ from-served (s .args .g) _ _ _ w (s .pre .1)
 
 pub row-from-spec : {M : Type 1} → statement M

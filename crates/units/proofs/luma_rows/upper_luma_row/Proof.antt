@@ -1,20 +1,16 @@
 -- `units::luma_rows::upper_luma_row` meets its contract: for each of the four sources, `LumaSources` has that it lies inside and that it is the definition's row.
-use mathlib.Core.Path.{_≡_, _∙_, ap}
-use Prim.Native.Nat.{ℕ, _*_, _-_, _^_, _≤_}
+use mathlib.Core.Path.{_∙_, ap}
+use Prim.Native.Nat.{ℕ, _*_, _-_, _≤_}
 use native.Mathlib.Nat.{mul-le-mul}
 use native.Mathlib.Omega.{arith}
 use denote.Ref.{now}
 use borrow.Author.Needs.{needs}
-use Rattle.operations.proofs.Borders.{step-is}
+use Rattle.operations.proofs.Borders.{steps-are}
 use Rattle.units.specs.LumaFrom.{lumaFrom}
 use Rattle.units.proofs.Edges.{bit-is}
 use Rattle.units.proofs.LumaSources.{ver-low, at-inside, back-low, back-fits, top-two-fits, top-first-fits, top-second-fits, back-is, top-first-is, top-second-is, top-two-is, saved-top}
 use Rattle.units.proofs.luma_rows.upper_luma_row.Statement.{statement}
 use Rattle.units.proofs.luma_rows.upper_luma_row.Tie as tie
-
--- rows of luma for so many of chroma
-back-is-rows : (ss k r : ℕ) → r ≡ 2 ^ ss → k * r ≡ k * 2 ^ ss
-back-is-rows ss k r e = ap (λ (n : ℕ). k * n) e
 
 is-set-requires : tie.Need-is-set-requires
 is-set-requires c κs = search needs
@@ -37,7 +33,7 @@ mul-row-from c =
     let s = t .before .before .before .before in
     let a = s .args in
     let k = back-low (s .pre .0 .0) (bit-is (t .before .is-set .ensures) (t .if1 .taken)) (2 - a .r) (omega arith) (omega arith) in
-    let e = back-is-rows (a .g .«ss_ver») (2 - a .r) (m .luma-step .result) (m .luma-step .ensures .0 ∙ step-is (a .g .«ss_ver») (ver-low (s .pre .0 .0))) in
+    let e = steps-are (2 - a .r) (a .g .«ss_ver») (ver-low (s .pre .0 .0)) (m .luma-step .ensures .0) in
     let h : (2 - a .r) * m .luma-step .result * a .g .«luma_stride» ≤ a .g .«luma_off» = rw e (omega (arith, k .1)) in
     omega (arith, s .good)
 
@@ -48,7 +44,7 @@ sub-row-from c =
     let s = t .before .before .before .before in
     let a = s .args in
     let k = back-low (s .pre .0 .0) (bit-is (t .before .is-set .ensures) (t .if1 .taken)) (2 - a .r) (omega arith) (omega arith) in
-    let e = back-is-rows (a .g .«ss_ver») (2 - a .r) (m .luma-step .result) (m .luma-step .ensures .0 ∙ step-is (a .g .«ss_ver») (ver-low (s .pre .0 .0))) in
+    let e = steps-are (2 - a .r) (a .g .«ss_ver») (ver-low (s .pre .0 .0)) (m .luma-step .ensures .0) in
     rw e (omega (arith, k .1))
 
 row-from-requires : tie.Need-row-from-requires
@@ -58,7 +54,7 @@ row-from-requires c κs =
     let s = t .before .before .before .before in
     let a = s .args in
     let lie = s .pre .0 .0 in
-    let e = back-is-rows (a .g .«ss_ver») (2 - a .r) (m .luma-step .result) (m .luma-step .ensures .0 ∙ step-is (a .g .«ss_ver») (ver-low lie)) in
+    let e = steps-are (2 - a .r) (a .g .«ss_ver») (ver-low lie) (m .luma-step .ensures .0) in
     ((lie .wide .high, lie .hor), rw e (back-fits lie (bit-is (t .before .is-set .ensures) (t .if1 .taken)) (2 - a .r) (omega arith) (omega arith)))
 
 returns : tie.Need-returns
@@ -69,7 +65,7 @@ returns c =
     let a = s .args in
     let b = bit-is (t .before .is-set .ensures) (t .if1 .taken) in
     let k = back-low (s .pre .0 .0) b (2 - a .r) (omega arith) (omega arith) in
-    let e = back-is-rows (a .g .«ss_ver») (2 - a .r) (m .luma-step .result) (m .luma-step .ensures .0 ∙ step-is (a .g .«ss_ver») (ver-low (s .pre .0 .0))) in
+    let e = steps-are (2 - a .r) (a .g .«ss_ver») (ver-low (s .pre .0 .0)) (m .luma-step .ensures .0) in
     c .row-from .ensures ∙
     (ap (λ (n : ℕ). lumaFrom (a .g) (now (a .luma)) (a .g .«luma_off» - n * a .g .«luma_stride») (a .g .«luma_stride»)) e ∙
     back-is _ _ (a .r) (s .pre .1 .1) b (ver-low (s .pre .0 .0)) (omega (arith, k .1)))
