@@ -8,7 +8,7 @@ use Rattle.definition.specs.Limits.{blockColumnLimit}
 use Rattle.definition.specs.Blocks.{stretchStart, classEnd}
 use mathlib.Core.Bool.{and-false}
 use lib.Dec.{leb}
-use Rattle.blocks.specs.Answers.{rowStatus, blockStatus, endOf}
+use Rattle.definition.specs.Leaves.{rowStatus, blockStatus, endFrom}
 use Rattle.definition.specs.Rows.{orZero}
 
 pub row-in : (bw : ℕ) → bw ≤ blockColumnLimit → rowStatus bw ≡ 0
@@ -31,7 +31,7 @@ module _ (mask : ℕ) (classes : List ℕ) (bx bw : ℕ) where
   abbrev pub Answer : ℕ → ℕ → ℕ → Type 0
   Answer status start end =
       ((status ≡ blockStatus bx bw) × (start ≡ orZero (blockStatus bx bw) (stretchStart mask bx bw))) ×
-      (end ≡ orZero (blockStatus bx bw) (endOf mask classes (stretchStart mask bx bw) bw))
+      (end ≡ orZero (blockStatus bx bw) (endFrom mask classes (stretchStart mask bx bw) bw))
 
   pub refused : blockStatus bx bw ≡ 5 → Answer 5 0 0
   refused e = rw e ((refl, refl), refl)

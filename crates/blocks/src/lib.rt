@@ -2,7 +2,7 @@
 ghost use mathlib.Core.Path.{_≡_};
 ghost use Prim.Native.Nat.{_+_, _-_, _≤_, _<_};
 ghost use Rattle.definition.specs.Blocks.{masked, clearBelow, stretchEnd, stretchStart};
-ghost use Rattle.blocks.specs.Answers.{rowStatus, blockStatus, endOf};
+ghost use Rattle.definition.specs.Leaves.{rowStatus, blockStatus, endFrom};
 ghost use Rattle.definition.specs.Limits.{blockColumnLimit};
 ghost use Rattle.definition.specs.Rows.{orZero};
 use definition::BLOCK_COLUMN_LIMIT;
@@ -56,7 +56,7 @@ pub struct Stretch {
 // The next stretch of unmasked blocks of one class from bx on: it ends at the first masked block or other class. Start and end are bw where there is none.
 pub fn class_stretch(mask: u16, classes: &[u8; BLOCK_COLUMN_LIMIT], bx: usize, bw: usize) -> Stretch
     ensures { λ r. ⌜ (r .status ≡ blockStatus bx bw) × (r .start ≡ orZero (blockStatus bx bw) (stretchStart mask bx bw)) ⌝ }
-    ensures { λ r. ⌜ r .end ≡ orZero (blockStatus bx bw) (endOf mask (now (classes .entry)) (stretchStart mask bx bw) bw) ⌝ }
+    ensures { λ r. ⌜ r .end ≡ orZero (blockStatus bx bw) (endFrom mask (now (classes .entry)) (stretchStart mask bx bw) bw) ⌝ }
 {
     if BLOCK_COLUMN_LIMIT < bw {
         return Stretch {

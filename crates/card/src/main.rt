@@ -1,4 +1,4 @@
-// Reads document 01's card from standard input and prints what answers it: status, filtered and, at status 0, the rows.
+// Reads a card from standard input and prints what answers it: status, filtered and, at status 0, the rows.
 // At most so many bytes are read as decide what an input means, however long it is.
 use card_reader::INPUT_SIZE;
 

@@ -13,16 +13,15 @@ use lib.Seq.{sets-eq, getD-append-add}
 use Rattle.laws.proofs.Inside.{is-sized}
 use Rattle.definition.specs.Blocks.{side, piecesOf}
 use Rattle.definition.specs.Refusals.{sized}
-use Rattle.definition.specs.Limits.{widthLimit, heightLimit, blockRowLimit}
+use Rattle.definition.specs.Limits.{widthLimit, heightLimit, blockRowLimit, planeSize}
 use Rattle.definition.specs.Card.{Meaning, unit, refused, meaning, joined, skipEntry, spread, restoredPlane, filtered, headText, rowsText, statusName, filteredName, lineText, printed, cardAnswer}
 use Rattle.laws.proofs.Lists.{tab-cong}
-use Rattle.card_laws.specs.Sizes.{planeSize}
 use Rattle.card_laws.proofs.Planes.{front, drop-zeros}
 use Rattle.card_laws.proofs.Readings.{RightlyRead, meaning-fine, refusing-above}
 use Rattle.card_reader.specs.Answers.{cardOf, filled}
 use Rattle.card_reader.specs.declared.Card.{Card}
-use Rattle.card_answer.specs.Answers.{Answers, textSize, planeOf, unitText}
-use Rattle.card_answer.specs.Put.{Put}
+use Rattle.card_answer.specs.Answers.{Answers, textSize}
+use Rattle.card_answer.specs.Put.{planeOf, unitText, Put}
 use Rattle.card_answer.proofs.Texts.{line-short, head-short, rows-short}
 
 abbrev blank : ℕ → List ℕ

@@ -14,15 +14,14 @@ use Rattle.definition.specs.declared.Operation.the-variants.{Luma}
 use Rattle.definition.specs.Rows.{tab}
 use Rattle.definition.specs.Blocks.{side, piecesOf}
 use Rattle.definition.specs.Units.{finalSample}
-use Rattle.definition.specs.Refusals.{sized, outside, unitStatus, unitChecks, sizesOf}
+use Rattle.definition.specs.Refusals.{sized, outside, unitStatus, unitChecks, sizesOf, openStatus}
 use Rattle.definition.specs.Limits.{widthLimit, heightLimit, strideLimit}
 use Rattle.laws.proofs.Lists.{length-tab, getD-tab}
 use Rattle.laws.proofs.Checks.{cleared}
-use Rattle.units.specs.Lent.{lumaLent}
-use Rattle.units.specs.Openings.{givenY, openStatus}
+use Rattle.definition.specs.Calls.{lumaLent, givenY}
 use Rattle.whole.specs.Whole.{Whole}
 use Rattle.whole.specs.declared.Restored.{Restored}
-use Rattle.card_answer.specs.Answers.{planeOf}
+use Rattle.card_answer.specs.Put.{planeOf}
 
 -- h rows of w samples, w apart, lie inside a plane that is as large as they are
 inside : (w h len : ℕ) → 0 < h → w * h ≤ len → outside len 0 w h w 0 0 ≡ false

@@ -11,9 +11,8 @@ use lib.Seq.{take-suc, sets}
 use native.Mathlib.Nat.{zero-add, add-zero, add-suc, suc-add, add-assoc}
 use Rattle.definition.specs.Rows.{tab}
 use Rattle.laws.proofs.Lists.{sets-more}
-use Rattle.definition.specs.Card.{newline, rowName, glyph, higher, decimalText, lineText, hexText, rowText, rowsText, headText, statusName, filteredName}
+use Rattle.definition.specs.Card.{newline, rowName, glyph, higher, decimalText, lineText, hexText, rowText, rowsText, headText, statusName, filteredName, rowLine}
 use Rattle.definition.specs.Limits.{widthLimit}
-use Rattle.card_laws.specs.Sizes.{rowLine}
 use Rattle.card_answer.specs.Put.{Put}
 
 pub put-none : (at : ℕ) (l : List ℕ) → Put [] at at l l

@@ -12,8 +12,8 @@ ghost use Rattle.definition.specs.Blocks.{side, piecesOf};
 ghost use Rattle.definition.specs.Refusals.{sized};
 ghost use Rattle.definition.specs.Limits.{widthLimit, heightLimit};
 ghost use Rattle.definition.specs.Card.{skipEntry, spread as Card·spread};
-ghost use Rattle.card_answer.specs.Answers.{Answers, textSize, planeOf, unitText};
-ghost use Rattle.card_answer.specs.Put.{Put};
+ghost use Rattle.card_answer.specs.Answers.{Answers, textSize};
+ghost use Rattle.card_answer.specs.Put.{planeOf, unitText, Put};
 
 mod text;
 

@@ -3,10 +3,8 @@ ghost use mathlib.Core.Path.{_≡_};
 ghost use mathlib.Core.List.{[], _∷_};
 ghost use Prim.Native.Nat.{_+_, _*_, _≤_, _<_};
 ghost use lib.ListN.{length};
-ghost use Rattle.definition.specs.Card.{higher, decimalText, hexText, rowText, rowsText, lineText, headText};
-ghost use Rattle.definition.specs.Card.{glyph as Card·glyph};
+ghost use Rattle.definition.specs.Card.{higher, decimalText, hexText, rowText, rowsText, lineText, headText, glyph as Card·glyph, rowLine};
 ghost use Rattle.definition.specs.Limits.{widthLimit};
-ghost use Rattle.card_laws.specs.Sizes.{rowLine};
 ghost use Rattle.card_answer.specs.Put.{Put};
 
 fn glyph(d: usize) -> u8

@@ -1,6 +1,6 @@
 // Prints the answers to the cards of data/cards, one after another; data/lengths has their lengths, two bytes each, the low one first.
 // The cards and the answers expected of them, the file stdout, were made by `compare cards 1 FOLDER`: samples are the Rust's, statuses those of a
-// reader that was written in Rust from document 01 alone.
+// reader that was written in Rust from the scope alone.
 ghost use Prim.Native.Nat.{_≤_, _<_};
 ghost use lib.ListN.{length};
 

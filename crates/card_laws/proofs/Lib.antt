@@ -1,3 +1,4 @@
+pub mod Sizes
 pub mod Several
 pub mod Planes
 pub mod Readings

@@ -3,7 +3,7 @@
 use mathlib.Core.Path.{_≡_, refl, ap, _∙_}
 use mathlib.Core.Bool.{Bool, true, false, cond, not}
 use mathlib.Core.List.{List, [], _∷_, _++_}
-use Prim.Native.Nat.{ℕ, zero, suc, _+_, _-_, _*_, _/_, _≤_, _<_}
+use Prim.Native.Nat.{ℕ, zero, suc, _+_, _*_, _/_, _≤_, _<_}
 use native.Mathlib.Nat.{le-refl}
 use native.Mathlib.Omega.{arith}
 use borrow.Author.Tests.{ne-eqb, leb-true, not-false, leb-false}
@@ -14,8 +14,8 @@ use Rattle.laws.proofs.Inside.{is-sized}
 use Rattle.definition.specs.Blocks.{side}
 use Rattle.definition.specs.Refusals.{sized}
 use Rattle.definition.specs.Limits.{widthLimit, heightLimit}
-use Rattle.definition.specs.Card.{inputAt, Reading, value, wrong, reading, several, word, wordAt, ended, endOf, newline, decimalOf, decimalAt, negated, unsigned, minus, tapAt, hexOf, pairAt, groupAt, opLine, wName, hName, edgesLine, filterName, skipName, rowName, sizeAt, filterAt, skipAt, rowAt, rowsAt, Meaning, unit, refused, after, listsAt, unitAt, ending, meaning}
-use Rattle.card_laws.specs.Sizes.{rowLine, skipLine, unitBytes}
+use Rattle.definition.specs.Card.{inputAt, Reading, value, wrong, reading, several, word, wordAt, ended, endOf, newline, decimalOf, decimalAt, negated, unsigned, minus, tapAt, hexOf, pairAt, groupAt, opLine, wName, hName, edgesLine, filterName, skipName, rowName, sizeAt, filterAt, skipAt, rowAt, rowsAt, Meaning, unit, refused, after, listsAt, unitAt, ending, meaning, rowLine}
+use Rattle.card_laws.proofs.Sizes.{skipLine, unitBytes}
 
 -- HOW FAR A READING GOES
 abbrev Reaches : {A : Type 0} → ℕ → Reading A → Type 0

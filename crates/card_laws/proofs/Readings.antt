@@ -1,15 +1,14 @@
 -- What is read at a place: a unit of the right sizes, or one of the statuses 1, 2 and 14. So a card's status is 0, 1, 2 or 14 and no other.
 use mathlib.Core.Path.{_≡_, refl, sym, _∙_}
-use mathlib.Core.Bool.{Bool, true, false, cond, not, _&&_, _||_}
+use mathlib.Core.Bool.{Bool, true, false, cond, not, _||_}
 use mathlib.Core.List.{List, [], _∷_, _++_}
-use Prim.Native.Nat.{ℕ, zero, suc, _+_, _*_, _/_, _%_, _≤_, _<_}
+use Prim.Native.Nat.{ℕ, zero, suc, _+_, _*_, _/_, _<_}
 use native.Mathlib.Nat.{zero-mul, suc-mul, mul-comm}
 use native.Mathlib.Omega.{arith}
-use borrow.Author.Tests.{not-false, leb-true}
-use lib.Dec.{eqb, leb}
+use borrow.Author.Tests.{not-false}
+use lib.Dec.{eqb}
 use lib.ListN.{length, length-append}
 use Rattle.laws.proofs.Ints.{never}
-use Rattle.laws.proofs.Passes.{both}
 use Rattle.definition.specs.Blocks.{side}
 use Rattle.definition.specs.Refusals.{sized}
 use Rattle.definition.specs.Limits.{widthLimit, heightLimit}

@@ -1,1 +1,1 @@
-// Laws of document 01's card, which its reader and its answer cite: they stand in proofs/, and there is no code.
+// Laws of the card, which its reader and its answer cite: they stand in proofs/, and there is no code.

@@ -11,14 +11,14 @@ use lib.Seq.{length-take-le}
 use lib.IntN.{ℤ}
 use Rattle.definition.specs.Blocks.{side}
 use Rattle.definition.specs.Refusals.{sized}
-use Rattle.definition.specs.Limits.{widthLimit, heightLimit, blockRowLimit}
+use Rattle.definition.specs.Limits.{widthLimit, heightLimit, blockRowLimit, planeSize}
 use Rattle.definition.specs.Card.{Reading, value, wrong, word, wordAt, sizeAt, filterAt, skipAt, rowsAt, opLine, wName, hName, edgesLine, joined, Meaning, unit, refused, listsAt, unitAt, ending}
-use Rattle.card_laws.specs.Sizes.{planeSize}
 use Rattle.card_laws.proofs.Planes.{drop-zeros}
 use Rattle.card_laws.proofs.Readings.{RightlyRead, refusing-above}
 use Rattle.card_reader.specs.declared.Line.{Line}
 use Rattle.card_reader.specs.declared.Line.the-variants.{Next, Wrong}
-use Rattle.card_reader.specs.Answers.{joins, filled, cardOf}
+use Rattle.card_reader.specs.Lines.{joins}
+use Rattle.card_reader.specs.Answers.{filled, cardOf}
 
 -- rows that stand in a plane
 pub record Stood (x : Reading (List (List ℕ))) (n : ℕ) (p q : List ℕ) : Type 0 where

@@ -12,7 +12,8 @@ use lib.Seq.{drop-cons}
 use native.Mathlib.Numerals.{add-one}
 use borrow.Author.Tests.{eq-eqb, ne-eqb, ltb-true, ltb-false}
 use Rattle.definition.specs.Card.{inputAt, digitOf, hexOf, Reading, value, wrong, reading, ended, word, wordAt, decimalAt, tapAt, minus, negated, unsigned}
-use Rattle.card_reader.specs.Answers.{numberOf, Below, tapOf, lineOf}
+use Rattle.card_reader.specs.Answers.{numberOf, lineOf}
+use Rattle.card_reader.specs.Lines.{Below, tapOf}
 use Rattle.card_reader.specs.declared.Number.{Number}
 use Rattle.card_reader.specs.declared.Number.the-variants.{Value, Wrong}
 use Rattle.card_reader.specs.declared.Tap.{Tap}

@@ -10,7 +10,7 @@ use borrow.Rule.Slice.PartMut.{putMid}
 use Rattle.definition.specs.Card.{value, wrong, several, rowAt, rowsAt, joined}
 use Rattle.card_laws.proofs.Several.{several-none, several-wrong, several-more}
 use Rattle.card_laws.proofs.Planes.{in-plane, rows-in-plane, part-long, joined-more, joined-long, front, behind}
-use Rattle.card_reader.specs.Answers.{joins}
+use Rattle.card_reader.specs.Lines.{joins}
 use Rattle.card_reader.specs.declared.Line.the-variants.{Next, Wrong as LineWrong}
 
 -- y rows of w samples were read, and the next starts at a place

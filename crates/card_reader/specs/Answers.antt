@@ -1,16 +1,12 @@
--- What the reader's answers mean: document 01's values for each case of an enum, and its numbers for a card's.
-use mathlib.Core.Path.{_≡_}
+-- What the reader's answers mean: the definition's value for each case of an enum, and its numbers for a card's.
 use mathlib.Core.List.{List, _++_}
-use Prim.Native.Nat.{ℕ, _-_, _<_}
-use lib.IntN.{ℤ, pos}
-use lib.ListN.{length, replicate, drop}
+use Prim.Native.Nat.{ℕ, _-_}
+use lib.IntN.{pos}
+use lib.ListN.{length, replicate}
 use Rattle.definition.specs.Card.{Reading, value, wrong, Meaning, unit, refused, joined}
-use Rattle.definition.specs.Limits.{blockRowLimit}
-use Rattle.card_laws.specs.Sizes.{planeSize}
+use Rattle.definition.specs.Limits.{blockRowLimit, planeSize}
 use Rattle.card_reader.specs.declared.Number.{Number}
 use Rattle.card_reader.specs.declared.Number.the-variants.{Value, Wrong}
-use Rattle.card_reader.specs.declared.Tap.{Tap}
-use Rattle.card_reader.specs.declared.Tap.the-variants.{Value as TapValue, Wrong as TapWrong}
 use Rattle.card_reader.specs.declared.Line.{Line}
 use Rattle.card_reader.specs.declared.Line.the-variants.{Next, Wrong as LineWrong}
 use Rattle.card_reader.specs.declared.Card.{Card}
@@ -18,15 +14,6 @@ use Rattle.card_reader.specs.declared.Card.{Card}
 abbrev pub numberOf : Number → Reading ℕ
 numberOf (Value n at) = value n at
 numberOf Wrong = wrong
-
--- a number that was read is below n
-abbrev pub Below : ℕ → Number → Type 0
-Below n (Value v at) = v < n
-Below n Wrong = Unit {0}
-
-abbrev pub tapOf : Tap → Reading ℤ
-tapOf (TapValue n at) = value n at
-tapOf TapWrong = wrong
 
 -- a line whose value is a
 abbrev pub lineOf : {A : Type 0} → Line → A → Reading A
@@ -41,13 +28,6 @@ valueOr a wrong = a
 -- a list of n, the rest of it zeros
 abbrev pub filled {ℓ} : {A : Type ℓ} → A → ℕ → List A → List A
 filled zero n l = l ++ replicate (n - length l) zero
-
--- h rows that were read stand at the front of a plane, and what is behind them is as it was
-abbrev pub joins : Reading (List (List ℕ)) → Line → List ℕ → List ℕ → Type 0
-joins (value rows at) (Next next) p q = (next ≡ at) × (q ≡ joined rows ++ drop (length (joined rows)) p)
-joins (value rows at) LineWrong p q = ⊥
-joins wrong (Next next) p q = ⊥
-joins wrong LineWrong p q = Unit {0}
 
 -- a card that is refused has zeros
 abbrev pub refusedCard : ℕ → Card

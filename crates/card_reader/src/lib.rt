@@ -1,4 +1,4 @@
-// Reads document 01's card from a slice, line by line from any place on. Each line has a function, which answers a value and the place
+// Reads a card (docs/SCOPE.md, 'The card') from a slice, line by line from any place on. Each line has a function, which answers a value and the place
 // behind it, or that the line is not of its form. A place moves on only past bytes that stand there, so it never passes the input's end.
 use definition::BLOCK_ROW_LIMIT;
 use definition::HEIGHT_LIMIT;
@@ -7,10 +7,10 @@ use definition::WIDTH_LIMIT;
 ghost use mathlib.Core.Path.{_≡_};
 ghost use Prim.Native.Nat.{_*_, _≤_, _<_};
 ghost use lib.ListN.{length, take, drop};
-ghost use Rattle.definition.specs.Card.{inputAt, digitOf, hexOf, decimalAt, tapAt, pairAt, groupAt, wordAt, sizeAt, filterAt, skipAt, rowAt, rowsAt, several, endOf, listsAt, unitAt, meaning};
-ghost use Rattle.definition.specs.Card.{negated as Card·negated, unsigned as Card·unsigned, word as Card·word};
+ghost use Rattle.definition.specs.Card.{inputAt, digitOf, hexOf, decimalAt, tapAt, pairAt, groupAt, wordAt, sizeAt, filterAt, skipAt, rowAt, rowsAt, several, endOf, listsAt, unitAt, meaning, negated as Card·negated, unsigned as Card·unsigned, word as Card·word};
 ghost use Rattle.definition.specs.Limits.{widthLimit, heightLimit};
-ghost use Rattle.card_reader.specs.Answers.{numberOf, Below, tapOf, lineOf, valueOr, joins, cardOf, refusedCard};
+ghost use Rattle.card_reader.specs.Answers.{numberOf, lineOf, valueOr, cardOf, refusedCard};
+ghost use Rattle.card_reader.specs.Lines.{Below, tapOf, joins};
 
 // A number and the place behind it.
 pub enum Number {
@@ -409,7 +409,7 @@ pub fn read_unit(s: &[u8], at: usize) -> Card
     read_lists(s, p4, w, h)
 }
 
-// Reads a card, document 01's meaning of the bytes: a unit that ends where they do.
+// Reads a card, the meaning of all the bytes: a unit that ends where they do.
 pub fn read_card(s: &[u8]) -> Card
     ensures { λ r. ⌜ r ≡ cardOf (meaning (now (s .entry))) ⌝ }
 {

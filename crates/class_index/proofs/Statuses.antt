@@ -9,7 +9,7 @@ use borrow.Author.Tests.{ltb-false, leb-false, not-false, le-leb, ne-eqb}
 use Rattle.definition.specs.Limits.{blockRowLimit}
 use Rattle.definition.specs.ClassIndex.{lastColumn}
 use Rattle.definition.specs.Refusals.{rowsSize, indicesUpTo, classStatus}
-use Rattle.class_index.specs.Answers.{badPlace, placeStatus}
+use Rattle.definition.specs.Leaves.{badPlace, placeStatus}
 use Rattle.definition.specs.Rows.{orZero}
 use Rattle.laws.proofs.Passes.{first-clear, not-both}
 

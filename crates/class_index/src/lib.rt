@@ -1,15 +1,14 @@
 // looprestoration.rs: the class index of a block, at depth 8. Nothing is written; what is refused answers its status and zeros.
 ghost use mathlib.Core.Path.{_≡_};
 ghost use mathlib.Core.Bool.{cond};
-ghost use Prim.Native.Nat.{_+_, _-_, _*_, _%_, _^_, _<_, _≤_, min};
+ghost use Prim.Native.Nat.{_+_, _-_, _*_, _^_, _<_, _≤_, min};
 ghost use lib.IntN.{pos, _+ℤ_};
 ghost use lib.ListN.{length, getD};
 ghost use Rattle.definition.specs.Numbers.{bitSet, toI32};
 ghost use Rattle.definition.specs.Limits.{blockRowLimit};
 ghost use Rattle.definition.specs.ClassIndex.{lastColumn, term, bin, skipSum, skipFactor, indexOf, classIndex};
 ghost use Rattle.definition.specs.Refusals.{classStatus};
-ghost use Rattle.features.specs.Features.{blockFlat};
-ghost use Rattle.class_index.specs.Answers.{badPlace, placeStatus};
+ghost use Rattle.definition.specs.Leaves.{blockFlat, badPlace, placeStatus};
 ghost use Rattle.definition.specs.Rows.{orZero};
 use definition::BLOCK_ROW_LIMIT;
 use definition::INDEX_COUNT;

@@ -1,4 +1,4 @@
--- Document 01, 'padding and units': masks, pieces and stretches. A mask's bit k is block k of a row of blocks; 1 leaves the block.
+-- docs/SCOPE.md, 'Masks, pieces and stretches'. A mask's bit k is block k of a row of blocks; 1 leaves the block.
 use mathlib.Core.Bool.{Bool, cond, not, _||_}
 use mathlib.Core.List.{List}
 use Prim.Native.Nat.{ℕ, zero, suc, _+_, _-_, _*_, _/_}

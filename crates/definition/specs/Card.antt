@@ -1,4 +1,4 @@
--- Document 01, 'The card': what a card means, for every input whatsoever, and the text that is printed for it. A place is a position in the input.
+-- docs/SCOPE.md, 'The card': what a card means, for every input whatsoever, and the text that is printed for it. A place is a position in the input.
 use mathlib.Core.Bool.{cond, not, _&&_}
 use mathlib.Core.List.{List, [], _∷_, _++_}
 use Prim.Native.Nat.{ℕ, zero, suc, _+_, _-_, _*_, _/_, _%_}
@@ -12,6 +12,7 @@ use Rattle.definition.specs.declared.Given.{Given}
 use Rattle.definition.specs.Rows.{tab}
 use Rattle.definition.specs.Blocks.{side, piecesOf}
 use Rattle.definition.specs.Units.{Lent, finalSample}
+use Rattle.definition.specs.Calls.{givenY, lumaLent}
 use Rattle.definition.specs.Refusals.{sized}
 use Rattle.definition.specs.Limits.{widthLimit, heightLimit}
 
@@ -213,40 +214,10 @@ abbrev pub spread : List ℕ → List ℕ
 spread skip = tab heightLimit (skipEntry skip)
 
 abbrev pub given : CardUnit → Given
-given u =
-    record {
-      w = u .w;
-      h = u .h;
-      edges = 0;
-      stride = u .w;
-      «luma_stride» = 0;
-      off = 0;
-      «top_off» = 0;
-      «bottom_off» = 0;
-      «luma_off» = 0;
-      «luma_top_off» = 0;
-      «luma_bottom_off» = 0;
-      «ss_hor» = 0;
-      «ss_ver» = 0;
-      kind = 0;
-    }
+given u = givenY (u .w) (u .h) 0 (u .w) 0 0 0
 
 abbrev pub lent : CardUnit → Lent
-lent u =
-    record {
-      left = [];
-      top = [];
-      bottom = [];
-      lumaPlane = [];
-      lumaTop = [];
-      lumaBottom = [];
-      skip = spread (u .skip);
-      noskip = [];
-      map = [];
-      subclass = [];
-      filters = u .filter;
-      q = pos 0;
-    }
+lent u = lumaLent [] [] [] (u .filter) (spread (u .skip))
 
 unfoldable pub restoredPlane : CardUnit → List ℕ
 restoredPlane u = tab (u .w * u .h) (λ i. finalSample (given u) (lent u) (joined (u .rows)) Luma (i / u .w) (i % u .w))
@@ -268,6 +239,10 @@ decimalText n = higher 1000 n ++ higher 100 n ++ higher 10 n ++ (glyph (n % 10) 
 abbrev pub hexText : List ℕ → List ℕ
 hexText [] = []
 hexText (b ∷ bs) = glyph (b / 16) ∷ glyph (b % 16) ∷ hexText bs
+
+-- the line of a row, and its bytes at the most
+abbrev pub rowLine : ℕ
+rowLine = 5 + 2 * widthLimit
 
 unfoldable pub rowText : List ℕ → List ℕ
 rowText row = rowName ++ hexText row ++ (newline ∷ [])

@@ -1,4 +1,4 @@
--- Document 01, 'intops.rs and the class index', at depth 8.
+-- docs/SCOPE.md, 'The class index', at depth 8.
 use mathlib.Core.Bool.{cond}
 use mathlib.Core.List.{List, [], _∷_}
 use Prim.Native.Nat.{ℕ, _+_, _-_, _*_, _/_, min}

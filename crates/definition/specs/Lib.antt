@@ -1,4 +1,4 @@
--- Document 01, in its order. A reader who believes these files, and the contracts that cite them, has read all that is claimed.
+-- docs/SCOPE.md as definitions, in its order. A reader who believes these files has read what a restored sample, a class index, a refusal and a card's answer are.
 pub mod Numbers
 pub mod Rows
 pub mod ClassIndex
@@ -7,5 +7,7 @@ pub mod Padding
 pub mod Blocks
 pub mod Limits
 pub mod Units
+pub mod Calls
 pub mod Refusals
+pub mod Leaves
 pub mod Card

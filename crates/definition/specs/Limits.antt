@@ -1,5 +1,5 @@
--- The limits, as the code's constants have them. Nothing above the definition says these numbers again.
-use Prim.Native.Nat.{ℕ, _/_}
+-- docs/SCOPE.md, 'Limits': the limits, as the code's constants have them. Nothing above the definition says these numbers again.
+use Prim.Native.Nat.{ℕ, _*_, _/_}
 use Rattle.definition.specs.Blocks.{side}
 
 -- the sides of a unit, in samples and in blocks
@@ -14,6 +14,10 @@ blockColumnLimit = widthLimit / side
 
 abbrev pub blockRowLimit : ℕ
 blockRowLimit = heightLimit / side
+
+-- the samples of a unit
+abbrev pub planeSize : ℕ
+planeSize = widthLimit * heightLimit
 
 -- the distance of two rows of a plane
 abbrev pub strideLimit : ℕ

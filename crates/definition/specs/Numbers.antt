@@ -1,4 +1,4 @@
--- The arithmetic that document 01 speaks in. Sums and products of ℤ are exact; a shift right by n rounds down, which is `shrZ _ (2 ^ n)`.
+-- docs/SCOPE.md, 'Numbers': the arithmetic. Sums and products of ℤ are exact; a shift right by n rounds down, which is `shrZ _ (2 ^ n)`.
 use mathlib.Core.Bool.{Bool, cond}
 use mathlib.Core.List.{List}
 use Prim.Native.Nat.{ℕ, zero, suc, _+_, _/_, _%_, _^_, min}

@@ -1,4 +1,4 @@
--- Document 01, 'padding and units': the rows and columns around a unit. A row is a function of its column, which may be negative or past its end.
+-- docs/SCOPE.md, 'Edges and padding': the rows and columns around a unit. A row is a function of its column, which may be negative or past its end.
 use mathlib.Core.Bool.{Bool, true, false, cond}
 use mathlib.Core.List.{List}
 use Prim.Native.Nat.{ℕ, zero, suc, _+_, _-_, _/_}

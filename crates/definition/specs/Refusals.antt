@@ -1,4 +1,4 @@
--- Document 01, 'When a unit is declined': each line of the table as a condition, and the status that comes first. Exact over ℕ: nothing wraps.
+-- docs/SCOPE.md, 'Refusals': each line of the table as a condition, and the status that comes first. Exact over ℕ: nothing wraps.
 use mathlib.Core.Bool.{Bool, true, false, cond, not, _&&_, _||_}
 use mathlib.Core.List.{List, [], _∷_}
 use Prim.Native.Nat.{ℕ, zero, suc, _+_, _-_, _*_, _/_, _%_, _^_}
@@ -169,6 +169,10 @@ module _ (op : Operation) (g : Given) (z : Sizes) where
   -- the status of a unit that is opened
   unfoldable pub unitStatus : ℕ
   unitStatus = lowest unitChecks
+
+-- .. over what it is lent
+abbrev pub openStatus : Operation → Given → Lent → List ℕ → ℕ
+openStatus op n l p = unitStatus op n (sizesOf op l p)
 
 -- 13, in two parts. The state's shape: of another operation, rows done over h, a row index over 9 or a next row over 8 (chroma: either over 4).
 abbrev pub indexLimit : Operation → ℕ

@@ -1,4 +1,4 @@
--- Lists that the promises speak of: a list made by a rule, what a call leaves of a list that it was lent, and padded rows in one flat array.
+-- docs/SCOPE.md, 'Rows in one array'. Lists that the promises speak of: a list made by a rule, what a call leaves of a list that it was lent, and padded rows in one flat array.
 use mathlib.Core.Bool.{Bool, cond}
 use mathlib.Core.List.{List, [], _∷_}
 use Prim.Native.Nat.{ℕ, zero, suc, _+_, _*_}

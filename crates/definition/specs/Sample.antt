@@ -1,4 +1,4 @@
--- Document 01, 'filter.rs: one sample'. `s dy dx` is the padded sample dy rows below and dx columns right of the sample that is restored,
+-- docs/SCOPE.md, 'One sample'. `s dy dx` is the padded sample dy rows below and dx columns right of the sample that is restored,
 -- `c k` the filter's number k, and `limit` the largest sample.
 use mathlib.Core.List.{List, [], _∷_}
 use Prim.Native.Nat.{ℕ, _+_, _*_}

@@ -1,4 +1,4 @@
--- Document 01, 'padding and units': the padded sample at a row and a column of a unit, and its final sample, over the plane as it was when the unit was opened.
+-- docs/SCOPE.md, 'The padded sample and the final sample': the padded sample at a row and a column of a unit, and its final sample, over the plane as it was when the unit was opened.
 use mathlib.Core.Bool.{Bool, true, false, cond, _||_}
 use mathlib.Core.List.{List}
 use Prim.Native.Nat.{ℕ, zero, suc, _+_, _-_, _*_, _/_, _^_, min}

@@ -8,7 +8,8 @@ use lib.ListN.{getD}
 use Rattle.definition.specs.Numbers.{sumN}
 use Rattle.definition.specs.Rows.{rowBytes, lumaFlat}
 use Rattle.definition.specs.ClassIndex.{bend, feature}
-use Rattle.features.specs.Features.{featureAt, columnBend, columnSum}
+use Rattle.definition.specs.Leaves.{featureAt}
+use Rattle.features.specs.Columns.{columnBend, columnSum}
 use Rattle.laws.proofs.Ints.{sub-cases, sub-pos, before-pos}
 use Rattle.laws.proofs.Sums.{sumN-cong}
 use Rattle.features.proofs.Sums.{exchanged}

@@ -12,7 +12,8 @@ use Rattle.definition.specs.Rows.{indexCount}
 use Rattle.definition.specs.ClassIndex.{lastColumn}
 use Rattle.definition.specs.Refusals.{rowsSize, indicesUpTo}
 use Rattle.laws.proofs.Passes.{both, pass-at, inside}
-use Rattle.features.specs.Features.{rowsStatus, blockStatus, featureRow, featureSums, served, TenRows}
+use Rattle.definition.specs.Leaves.{rowsStatus, blockFeaturesStatus, featureRow, featureSums, served}
+use Rattle.features.specs.Columns.{TenRows}
 
 -- the rows lie inside, and so do the blocks
 pub rows-inside : (rows indices : List ℕ) (fine : Bool) → rowsStatus (length rows) indices fine ≡ 0 → TenRows rows indices × (fine ≡ true)
@@ -22,7 +23,7 @@ rows-inside rows indices fine e =
     let q = both (leb rowsSize (length rows)) (indicesUpTo 9 indices) (p .0) in
     (record { size = leb-true rowsSize (length rows) (q .0); low = λ j h. leb-true (getD indices j 0) 9 (pass-at (λ i. leb i 9) indices indexCount j h (q .1)) }, p .1)
 
-pub block-inside : (rows : ℕ) (indices : List ℕ) (bx : ℕ) → rowsSize ≤ rows → indicesUpTo 9 indices ≡ true → bx ≤ lastColumn → blockStatus rows indices bx ≡ 0
+pub block-inside : (rows : ℕ) (indices : List ℕ) (bx : ℕ) → rowsSize ≤ rows → indicesUpTo 9 indices ≡ true → bx ≤ lastColumn → blockFeaturesStatus rows indices bx ≡ 0
 unfolding rowsStatus
 block-inside rows indices bx h e k = rw (le-leb rowsSize rows h, e, le-leb bx lastColumn k)
 

@@ -9,7 +9,8 @@ ghost use Rattle.definition.specs.Limits.{blockColumnLimit};
 ghost use Rattle.definition.specs.Rows.{rowBytes, indexCount};
 ghost use Rattle.definition.specs.ClassIndex.{lastColumn};
 ghost use Rattle.definition.specs.Refusals.{rowsSize};
-ghost use Rattle.features.specs.Features.{rowsStatus, rowStatus, blockStatus, featureRow, featureAt, featureSums, served, columnBend, columnSum, bendLimit, columnLimit, columnCount, TenRows};
+ghost use Rattle.definition.specs.Leaves.{rowsStatus, rowFeaturesStatus, blockFeaturesStatus, featureRow, featureAt, featureSums, served};
+ghost use Rattle.features.specs.Columns.{columnBend, columnSum, bendLimit, columnLimit, columnCount, TenRows};
 use definition::BLOCK_COLUMN_LIMIT;
 use definition::INDEX_COUNT;
 use definition::LAST_COLUMN;
@@ -166,7 +167,7 @@ pub struct Features {
 
 // The three features of the block in column bx: vertical, then the two diagonals.
 pub fn pcw_features(rows: &[u8], indices: &[usize; INDEX_COUNT], bx: usize) -> Features
-    ensures { λ r. ⌜ r .status ≡ blockStatus (length (now (rows .entry))) (now (indices .entry)) bx ⌝ }
+    ensures { λ r. ⌜ r .status ≡ blockFeaturesStatus (length (now (rows .entry))) (now (indices .entry)) bx ⌝ }
     ensures { λ r. ⌜ r .sums ≡ featureSums (r .status) (λ d. featureAt (now (rows .entry)) (now (indices .entry)) d bx) ⌝ }
 {
     let status = rows_status(rows.len(), indices, bx <= LAST_COLUMN);
@@ -194,7 +195,7 @@ pub struct RowFeatures {
 
 // The three features of the first n blocks of a block row.
 pub fn row_features(rows: &[u8], indices: &[usize; INDEX_COUNT], n: usize) -> RowFeatures
-    ensures { λ r. ⌜ r .status ≡ rowStatus (length (now (rows .entry))) (now (indices .entry)) n ⌝ }
+    ensures { λ r. ⌜ r .status ≡ rowFeaturesStatus (length (now (rows .entry))) (now (indices .entry)) n ⌝ }
     ensures { λ r. ⌜ r .vertical ≡ featureRow (served (r .status) n) (featureAt (now (rows .entry)) (now (indices .entry)) (pos 0)) ⌝ }
     ensures { λ r. ⌜ r .falling ≡ featureRow (served (r .status) n) (featureAt (now (rows .entry)) (now (indices .entry)) (pos 1)) ⌝ }
     ensures { λ r. ⌜ r .rising ≡ featureRow (served (r .status) n) (featureAt (now (rows .entry)) (now (indices .entry)) (negsuc 0)) ⌝ }

@@ -14,7 +14,7 @@ use Rattle.definition.specs.Sample.{limit8, rounded, dyOf, dxOf, centre, nsTap,
 use Rattle.laws.proofs.Ints.{before-pos, sub-pos}
 use Rattle.laws.proofs.Lists.{sets-before, sets-in, length-tab, getD-tab, tab-cong}
 use Rattle.laws.proofs.Tables.{near-at}
-use Rattle.filter.specs.Runs.{coefficients}
+use Rattle.definition.specs.Leaves.{coefficients}
 use Rattle.filter.specs.Gathered.{Gathered, every, compactAt, compactTap, compactSum, compactRun, compactBytes, compactSize}
 
 -- dy rows from the third of five, and from the eighth of ten indices

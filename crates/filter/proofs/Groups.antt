@@ -16,7 +16,7 @@ use Rattle.definition.specs.Numbers.{sumZ}
 use Rattle.laws.proofs.Held.{Held, kept, under}
 use Rattle.laws.proofs.Ints.{sub-cases}
 use Rattle.laws.proofs.Sums.{begun}
-use Rattle.filter.specs.Runs.{coefficients}
+use Rattle.definition.specs.Leaves.{coefficients}
 use Rattle.filter.specs.Windows.{Summed}
 use Rattle.filter.specs.Groups.{smallLimit, Small}
 

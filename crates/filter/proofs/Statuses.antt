@@ -11,7 +11,7 @@ use borrow.Author.Tests.{leb-true}
 use Rattle.definition.specs.Refusals.{indicesUpTo, rowsSize}
 use Rattle.definition.specs.Rows.{rowBytes, lumaRowBytes, lumaRowsAt, indexCount, stateBytes}
 use Rattle.laws.proofs.Passes.{both, pass-at, inside}
-use Rattle.filter.specs.Runs.{runStatus, uvStatus, windowInside}
+use Rattle.definition.specs.Leaves.{runStatus, uvStatus, windowInside}
 use Rattle.filter.specs.Windows.{ownInside, OwnInside, Turned, RowsReached, Eight}
 use Rattle.filter.specs.Gathered.{Gatherable}
 

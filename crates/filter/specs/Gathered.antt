@@ -8,7 +8,7 @@ use lib.Seq.{sets}
 use Rattle.definition.specs.Numbers.{sumZ}
 use Rattle.definition.specs.Rows.{tab, rowBytes, lumaRowBytes, lumaRowsAt, chromaFlat}
 use Rattle.definition.specs.Sample.{limit8, rounded, dyOf, dxOf, centre, nsTap, nsConfigUv, nsConfigUvFromY}
-use Rattle.filter.specs.Runs.{coefficients}
+use Rattle.definition.specs.Leaves.{coefficients}
 use Rattle.filter.specs.Windows.{RowsReached, Summed, pairLimit}
 
 -- every `step`-th byte from `from` on

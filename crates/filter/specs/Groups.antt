@@ -4,7 +4,7 @@ use mathlib.Core.List.{List}
 use lib.IntN.{ℤ, pos, natAbs, _*ℤ_}
 use Rattle.definition.specs.Rows.{lumaFlat, chromaFlat, rowBytes}
 use Rattle.definition.specs.Sample.{centre, nsTap, pcTap, nsConfigY, nsConfigUv}
-use Rattle.filter.specs.Runs.{coefficients}
+use Rattle.definition.specs.Leaves.{coefficients}
 use Rattle.filter.specs.Windows.{pairLimit, Window, Summed, centreLimit}
 use Rattle.filter.specs.Gathered.{compactAt, compactTap, compactEnd}
 

@@ -1,4 +1,3 @@
-pub mod Runs
 pub mod Windows
 pub mod Gathered
 pub mod Groups

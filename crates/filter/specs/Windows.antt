@@ -10,7 +10,7 @@ use Rattle.definition.specs.Rows.{rowBytes, lumaFlat, chromaFlat, indexCount}
 use Rattle.definition.specs.Refusals.{indicesUpTo}
 use Rattle.definition.specs.Sample.{limit8, centre, pairOf, nsTap, nsConfigY, nsConfigUv, pcConfig}
 use Rattle.laws.proofs.Sums.{Partial}
-use Rattle.filter.specs.Runs.{coefficients, windowInside}
+use Rattle.definition.specs.Leaves.{coefficients, windowInside}
 use lib.ListN.{length, getD}
 
 -- the tests that the runs share, against rows of `size` bytes to which indices up to a limit lead

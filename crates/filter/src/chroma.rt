@@ -6,7 +6,7 @@ ghost use lib.ListN.{length, getD};
 ghost use lib.Seq.{sets};
 ghost use Rattle.definition.specs.Rows.{tab, chromaFlat, rowBytes};
 ghost use Rattle.definition.specs.Sample.{dyOf, dxOf, nsConfigUv, nsConfigUvFromY};
-ghost use Rattle.filter.specs.Runs.{uvStatus};
+ghost use Rattle.definition.specs.Leaves.{uvStatus};
 ghost use Rattle.filter.specs.Windows.{OwnInside, Window, Eight, ChromaPartial, TapPair};
 ghost use Rattle.filter.specs.Groups.{Small, ChromaGroup, FromLumaGroup};
 ghost use Rattle.filter.specs.Gathered.{every, Gatherable, Gathered, compactAt, compactSample, compactRun, FromLumaPartial, lumaTapLimit, compactSize, compactEnd};

@@ -4,7 +4,7 @@
 // read from a copy (narrow.rt).
 ghost use mathlib.Core.Path.{_≡_};
 ghost use lib.ListN.{length};
-ghost use Rattle.filter.specs.Runs.{runStatus, uvStatus, lumaRun, pretrainedRun, chromaRun};
+ghost use Rattle.definition.specs.Leaves.{runStatus, uvStatus, lumaRun, pretrainedRun, chromaRun};
 
 mod chroma;
 mod luma;

@@ -5,7 +5,7 @@ ghost use Prim.Native.Nat.{ℕ, _+_, _<_};
 ghost use lib.ListN.{getD};
 ghost use Rattle.definition.specs.Rows.{lumaFlat, rowBytes};
 ghost use Rattle.definition.specs.Sample.{limit8, lumaSample, nsConfigY};
-ghost use Rattle.filter.specs.Runs.{coefficients};
+ghost use Rattle.definition.specs.Leaves.{coefficients};
 ghost use Rattle.filter.specs.Windows.{Window, Eight, LumaPartial, TapPair};
 ghost use Rattle.filter.specs.Groups.{Small, LumaGroup};
 use crate::narrow::difference;

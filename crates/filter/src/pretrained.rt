@@ -6,7 +6,7 @@ ghost use lib.IntN.{pos, natAbs, _+ℤ_, _-ℤ_, _*ℤ_};
 ghost use lib.ListN.{getD};
 ghost use Rattle.definition.specs.Rows.{lumaFlat, rowBytes};
 ghost use Rattle.definition.specs.Sample.{limit8, centre, pretrainedSample, pcConfig};
-ghost use Rattle.filter.specs.Runs.{coefficients};
+ghost use Rattle.definition.specs.Leaves.{coefficients};
 ghost use Rattle.filter.specs.Windows.{Window, Eight, TakenOff, PretrainedPartial, TapPair, pairLimit, lessTapLimit, centreLimit};
 ghost use Rattle.filter.specs.Groups.{Small, NarrowPretrained, PretrainedGroup};
 use crate::narrow::is_large;

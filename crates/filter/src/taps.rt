@@ -5,7 +5,7 @@ ghost use lib.IntN.{pos, natAbs, _+ℤ_, _-ℤ_, _*ℤ_};
 ghost use Rattle.definition.specs.Numbers.{clipTo};
 ghost use Rattle.definition.specs.Rows.{flatAround, rowBytes, indexCount};
 ghost use Rattle.definition.specs.Sample.{limit8, rounded, centre};
-ghost use Rattle.filter.specs.Runs.{runStatus};
+ghost use Rattle.definition.specs.Leaves.{runStatus};
 ghost use Rattle.filter.specs.Windows.{ownInside, RowsReached, Spot, PairAt, pairLimit, startLimit, nsTapLimit};
 use definition::INDEX_COUNT;
 use definition::ROW_BYTES;

@@ -1,6 +1,6 @@
 ghost use Rattle.definition.specs.declared.Operation.the-variants.{Luma, Chroma};
-ghost use Rattle.units.specs.Lent.{chromaLent};
-ghost use Rattle.units.specs.Advances.{answer, Answered, callOf};
+ghost use Rattle.definition.specs.Calls.{chromaLent, callOf};
+ghost use Rattle.units.specs.Advances.{answer, Answered};
 use units::Advanced;
 use units::State;
 

@@ -1,6 +1,6 @@
 ghost use Rattle.definition.specs.declared.Operation.the-variants.{Luma};
-ghost use Rattle.units.specs.Lent.{lumaLent};
-ghost use Rattle.units.specs.Advances.{answer, Answered, callOf};
+ghost use Rattle.definition.specs.Calls.{lumaLent, callOf};
+ghost use Rattle.units.specs.Advances.{answer, Answered};
 use units::Advanced;
 use units::State;
 

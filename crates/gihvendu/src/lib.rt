@@ -6,11 +6,8 @@ ghost use mathlib.Core.Path.{_≡_};
 ghost use lib.ListN.{length};
 ghost use Rattle.definition.specs.ClassIndex.{term, classIndex};
 ghost use Rattle.definition.specs.Refusals.{classStatus};
-ghost use Rattle.features.specs.Features.{blockFlat};
-ghost use Rattle.qval.specs.Answers.{termStatus, orZeroZ};
+ghost use Rattle.definition.specs.Leaves.{blockFlat, termStatus, orZeroZ, backupStatus, backupRow, lpfStatus, lpfRow, lumaStatus, backupLumaRow, source, runStatus, uvStatus, lumaRun, pretrainedRun, chromaRun};
 ghost use Rattle.definition.specs.Rows.{orZero};
-ghost use Rattle.padding.specs.Padded.{backupStatus, backupRow, lpfStatus, lpfRow, lumaStatus, lumaRow, source};
-ghost use Rattle.filter.specs.Runs.{runStatus, uvStatus, lumaRun, pretrainedRun, chromaRun};
 ghost use Rattle.units.specs.Advances.{isFinished};
 use class_index::ClassIndex;
 use qval::Qval;
@@ -126,7 +123,7 @@ pub extern "C" fn gihvendu_backup_row_luma_8bpc<'a>(
     cfl_ds_flt: usize,
 ) -> u8
     ensures { λ r. ⌜ r ≡ lumaStatus (length (now (dst .entry))) o (length (source «from_saved» (now (plane .entry)) (now (saved .entry)))) «src_o» «src_stride» w edges «ss_hor» «ss_ver» «cfl_ds_flt» ⌝ }
-    ensures { λ _. ⌜ now (dst .exit) ≡ lumaRow (now (dst .entry)) o (source «from_saved» (now (plane .entry)) (now (saved .entry))) «src_o» «src_stride» w edges «ss_hor» «ss_ver» «cfl_ds_flt» ⌝ }
+    ensures { λ _. ⌜ now (dst .exit) ≡ backupLumaRow (now (dst .entry)) o (source «from_saved» (now (plane .entry)) (now (saved .entry))) «src_o» «src_stride» w edges «ss_hor» «ss_ver» «cfl_ds_flt» ⌝ }
 {
     padding::backup_row_luma_8bpc(
         dst,

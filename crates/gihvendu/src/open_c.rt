@@ -1,6 +1,6 @@
 ghost use Rattle.definition.specs.declared.Operation.the-variants.{Luma, Chroma};
-ghost use Rattle.units.specs.Openings.{Begun, givenC};
-ghost use Rattle.units.specs.Lent.{chromaLent};
+ghost use Rattle.units.specs.Openings.{Begun};
+ghost use Rattle.definition.specs.Calls.{givenC, chromaLent};
 use units::Opened;
 
 #[no_mangle]

@@ -1,6 +1,6 @@
 ghost use Rattle.definition.specs.declared.Operation.the-variants.{Luma};
-ghost use Rattle.units.specs.Openings.{Begun, givenY};
-ghost use Rattle.units.specs.Lent.{lumaLent};
+ghost use Rattle.units.specs.Openings.{Begun};
+ghost use Rattle.definition.specs.Calls.{givenY, lumaLent};
 use units::Opened;
 
 #[no_mangle]

@@ -1,7 +1,6 @@
 ghost use Rattle.definition.specs.declared.Operation.the-variants.{Luma, Chroma};
 ghost use Rattle.whole.specs.Whole.{Whole};
-ghost use Rattle.units.specs.Lent.{chromaLent};
-ghost use Rattle.units.specs.Openings.{givenC};
+ghost use Rattle.definition.specs.Calls.{chromaLent, givenC};
 use whole::Restored;
 
 #[no_mangle]

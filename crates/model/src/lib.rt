@@ -1,1 +1,1 @@
-// The step of one row over any state, for each operation, and the theorem of its histories: in specs/, and there is no code.
+// A model of the code that restores a unit row by row, and the laws that lead from it to the definition: in proofs/, and there is no code.

@@ -11,7 +11,7 @@ use Rattle.definition.specs.Rows.{tab}
 use Rattle.definition.specs.Padding.{rowAt, mixed, evenOnly, lastSampled}
 use Rattle.laws.proofs.Ints.{never}
 use Rattle.padding.proofs.Around.{same-byte}
-use Rattle.padding.specs.Padded.{lowerAt}
+use Rattle.definition.specs.Leaves.{lowerAt}
 use Rattle.padding.specs.Steps.{columns}
 
 pub lower-none : (v k s : ℕ) → 1 < k → 0 ≡ lowerAt v k s

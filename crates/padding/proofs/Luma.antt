@@ -15,7 +15,7 @@ use Rattle.definition.specs.Padding.{rowAt, padded, mixed, evenOnly}
 use Rattle.definition.specs.Refusals.{beside}
 use Rattle.laws.proofs.Ints.{never, sub-pos, sub-neg}
 use Rattle.laws.proofs.Lists.{tab-cong, length-tab, getD-tab, sets-run, sets-before, sets-behind, sets-in}
-use Rattle.padding.specs.Padded.{lowerAt, source}
+use Rattle.definition.specs.Leaves.{lowerAt, source}
 use Rattle.padding.specs.Steps.{columns, repeated}
 use Rattle.padding.proofs.Around.{same-byte, row-column}
 use Rattle.padding.proofs.Filled.{unmasked}

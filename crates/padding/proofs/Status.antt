@@ -14,7 +14,7 @@ use Rattle.definition.specs.Refusals.{beside, badSampling}
 use Rattle.laws.proofs.Passes.{both, inside, first-clear, not-both}
 use Rattle.laws.proofs.Lists.{tab-cong}
 use Rattle.laws.proofs.Ints.{never}
-use Rattle.padding.specs.Padded.{targetInside, backupStatus, lpfStatus, lumaStatus, paddedRow, lowerAt}
+use Rattle.definition.specs.Leaves.{targetInside, backupStatus, lpfStatus, lumaStatus, paddedRow, lowerAt}
 use Rattle.padding.specs.Steps.{RowFits, InsideLuma}
 
 implied : (b c : Bool) → (not b || c) ≡ true → b ≡ true → c ≡ true

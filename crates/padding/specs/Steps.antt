@@ -9,7 +9,7 @@ use lib.Seq.{sets}
 use Rattle.definition.specs.Rows.{tab}
 use Rattle.definition.specs.Padding.{hasLeft, hasRight, evenOnly}
 use Rattle.definition.specs.Refusals.{beside}
-use Rattle.padding.specs.Padded.{lowerAt}
+use Rattle.definition.specs.Leaves.{lowerAt}
 
 pub record RowFits (dst o src srcO left leftO w e edges : ℕ) : Type 0 where
   pub some : 1 ≤ w

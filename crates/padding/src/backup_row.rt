@@ -9,7 +9,7 @@ ghost use Rattle.definition.specs.Rows.{tab};
 ghost use Rattle.definition.specs.Padding.{rowAt, after};
 ghost use Rattle.definition.specs.Refusals.{beside};
 ghost use Rattle.padding.specs.Steps.{RowFits};
-ghost use Rattle.padding.specs.Padded.{backupStatus, paddedRow};
+ghost use Rattle.definition.specs.Leaves.{backupStatus, paddedRow};
 use crate::beside::beside_of;
 use crate::beside::copy_into;
 use crate::beside::has_left;

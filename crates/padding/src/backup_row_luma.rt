@@ -9,7 +9,7 @@ ghost use lib.Seq.{sets};
 ghost use Rattle.definition.specs.Rows.{tab};
 ghost use Rattle.definition.specs.Padding.{mixed, rowAt, evenOnly, lastSampled};
 ghost use Rattle.padding.specs.Steps.{columns, repeated, InsideLuma};
-ghost use Rattle.padding.specs.Padded.{lumaByte, lumaStatus, lowerAt, source};
+ghost use Rattle.definition.specs.Leaves.{lumaByte, lumaStatus, lowerAt, source};
 use crate::beside::beside_of;
 use crate::beside::copy_into;
 use crate::beside::has_left;

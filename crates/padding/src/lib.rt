@@ -2,7 +2,7 @@
 // edges: bit 1 left, bit 2 right; other bits are not looked at.
 ghost use mathlib.Core.Path.{_≡_};
 ghost use lib.ListN.{length};
-ghost use Rattle.padding.specs.Padded.{backupStatus, backupRow, lpfStatus, lpfRow, lumaStatus, lumaRow, source};
+ghost use Rattle.definition.specs.Leaves.{backupStatus, backupRow, lpfStatus, lpfRow, lumaStatus, backupLumaRow, source};
 
 mod backup_row;
 mod backup_row_luma;
@@ -79,7 +79,7 @@ pub fn backup_row_luma_8bpc<'a>(
     cfl_ds_flt: usize,
 ) -> u8
     ensures { λ r. ⌜ r ≡ lumaStatus (length (now (dst .entry))) o (length (source «from_saved» (now (plane .entry)) (now (saved .entry)))) «src_o» «src_stride» w edges «ss_hor» «ss_ver» «cfl_ds_flt» ⌝ }
-    ensures { λ _. ⌜ now (dst .exit) ≡ lumaRow (now (dst .entry)) o (source «from_saved» (now (plane .entry)) (now (saved .entry))) «src_o» «src_stride» w edges «ss_hor» «ss_ver» «cfl_ds_flt» ⌝ }
+    ensures { λ _. ⌜ now (dst .exit) ≡ backupLumaRow (now (dst .entry)) o (source «from_saved» (now (plane .entry)) (now (saved .entry))) «src_o» «src_stride» w edges «ss_hor» «ss_ver» «cfl_ds_flt» ⌝ }
 {
     let len = source_len(plane, saved, from_saved);
     let status = luma_status(

@@ -12,17 +12,18 @@ use Rattle.definition.specs.declared.Operation.the-variants.{Luma}
 use Rattle.definition.specs.declared.Given.{Given}
 use Rattle.definition.specs.Blocks.{side, piecesOf}
 use Rattle.definition.specs.Units.{Lent}
-use Rattle.definition.specs.Refusals.{sizesOf}
+use Rattle.definition.specs.Refusals.{sizesOf, openStatus}
 use Rattle.history.specs.History.{History, opened, _▷_, advance, write, run, sum, last, Valid, After}
-use Rattle.model.specs.Fine.{Fine, fine}
+use Rattle.model.proofs.Fine.{Fine, fine}
 use Rattle.units.specs.declared.Opened.{Opened}
 use Rattle.units.specs.declared.Advanced.{Advanced}
-use Rattle.units.specs.Openings.{Begun, openStatus, openState}
+use Rattle.units.specs.Openings.{Begun, openState}
 use Rattle.units.specs.Histories.{unit}
 use Rattle.units.proofs.LumaHistory.{luma-history}
 use Rattle.paused.specs.declared.Paused.{Paused}
 use Rattle.paused.specs.Paused.{heldSample, PausedUnit}
-use Rattle.units.specs.Advances.{Call, answer, Answered, callOf}
+use Rattle.definition.specs.Calls.{Call, callOf}
+use Rattle.units.specs.Advances.{answer, Answered}
 
 -- broken off after count rows, and written over where a row was finished
 abbrev between : ℕ → ℕ → History Call (Unit {0})

@@ -10,7 +10,7 @@ use Rattle.definition.specs.declared.Operation.the-variants.{Luma}
 use Rattle.definition.specs.declared.Given.{Given}
 use Rattle.definition.specs.Blocks.{side, piecesOf}
 use Rattle.definition.specs.Units.{Lent, finalSample}
-use Rattle.units.specs.Openings.{openStatus}
+use Rattle.definition.specs.Refusals.{openStatus}
 use Rattle.paused.specs.declared.Paused.{Paused}
 
 -- the sample that was written over holds v, where a row was finished before; each other one is final

@@ -5,8 +5,7 @@ ghost use mathlib.Core.Bool.{cond};
 ghost use Prim.Native.Nat.{_<_};
 ghost use lib.Dec.{eqb};
 ghost use lib.ListN.{length, set};
-ghost use Rattle.units.specs.Lent.{lumaLent};
-ghost use Rattle.units.specs.Openings.{givenY};
+ghost use Rattle.definition.specs.Calls.{lumaLent, givenY};
 ghost use Rattle.paused.specs.Paused.{PausedUnit};
 
 pub struct Paused {

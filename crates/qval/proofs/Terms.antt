@@ -13,7 +13,7 @@ use mir.Syntax.{w16, w32, w64}
 use mir.Val.{SFits, toZ, ofZ}
 use mir.Facts.{toZ-ofZ}
 use Rattle.definition.specs.ClassIndex.{by8192, weight, modeWeights, modeOffsets, term}
-use Rattle.qval.specs.Answers.{orZeroZ, termStatus}
+use Rattle.definition.specs.Leaves.{orZeroZ, termStatus}
 use Rattle.laws.proofs.Ints.{never}
 use Rattle.laws.proofs.Tables.{all, all-at}
 use Rattle.laws.proofs.Held.{Held, typed, cast, castB}

@@ -3,7 +3,7 @@ ghost use mathlib.Core.Path.{_≡_};
 ghost use Prim.Native.Nat.{_*_, _<_, _≤_};
 ghost use lib.IntN.{pos, natAbs, _+ℤ_, _*ℤ_};
 ghost use Rattle.definition.specs.ClassIndex.{prod, by8192, weight, term, bin};
-ghost use Rattle.qval.specs.Answers.{orZeroZ, termStatus};
+ghost use Rattle.definition.specs.Leaves.{orZeroZ, termStatus};
 use tables::MODE_OFFSETS;
 use tables::MODE_WEIGHTS;
 

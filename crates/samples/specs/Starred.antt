@@ -1,4 +1,4 @@
--- Document 01's starred samples: what the definition gives beside what document 01 says, one table under one proof that antt computes.
+-- The starred samples of docs/SCOPE.md, 'Samples': what the definition gives beside what is said there, one table under one proof that antt computes.
 use mathlib.Core.Bool.{Bool, true, false, cond, _&&_}
 use mathlib.Core.List.{List, [], _∷_}
 use mathlib.Core.Path.{_≡_, refl}
@@ -14,7 +14,7 @@ use Rattle.definition.specs.Blocks.{clearBelow, piecesOf}
 use Rattle.definition.specs.Units.{sampleAt, classOf, finalSample}
 use Rattle.definition.specs.Card.{ascii, several, wordAt, decimalOf, decimalAt, tapAt, pairAt, groupAt, sizeAt, filterAt, skipAt, rowAt, rowsAt, listsAt, unitAt, meaning, restoredPlane, filtered, decimalText, rowText, rowsText, lineText, printed, cardAnswer}
 
--- what was worked out, and what document 01 says
+-- what was worked out, and what the scope says
 infix 20 _is_
 infix 20 _prints_
 data Sample : Type 0 where

@@ -1,1 +1,1 @@
-// Document 01's starred samples: they stand in specs/, one table under one proof, and there is no code.
+// The starred samples of docs/SCOPE.md: they stand in specs/, one table under one proof, and there is no code.

@@ -8,7 +8,7 @@ const W: [usize; 9] = [4, 64, 0, 6, 68, 4, 4, 4, 6];
 
 const H: [usize; 9] = [4, 4, 4, 4, 4, 64, 0, 68, 68];
 
-// Widths and heights at document 01's limits and past them.
+// Widths and heights at their limits and past them.
 pub fn width(i: usize) -> usize {
     if i < 9 { W[i] } else { 0 }
 }
@@ -48,7 +48,7 @@ fn y(
     print_answer(r, plane, 68, w, h);
 }
 
-// Document 01's card. Row 1 is 25; with the row above as it is after it was restored it would be 28.
+// The card of docs/SCOPE.md. Row 1 is 25; with the row above as it is after it was restored it would be 28.
 fn row_above() {
     let mut p = [
         10u8,

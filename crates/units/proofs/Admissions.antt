@@ -15,10 +15,11 @@ use Rattle.definition.specs.Rows.{indexCount}
 use Rattle.definition.specs.Units.{numberOf, classed, setSize, Lent}
 use Rattle.definition.specs.Refusals.{sizesOf, unitStatus, badShape, badKept, indexLimit, nextLimit, indicesUpTo}
 use Rattle.laws.proofs.Passes.{pass-at, pass-all, not-both, first-clear}
-use Rattle.model.specs.Fine.{Fine, fine}
+use Rattle.model.proofs.Fine.{Fine, fine}
 use Rattle.units.specs.declared.State.{State}
 use Rattle.units.specs.Windows.{RowsLie}
-use Rattle.units.specs.Advances.{callOf, badState, statusBy, statusOf}
+use Rattle.definition.specs.Calls.{callOf}
+use Rattle.units.specs.Advances.{badState, statusBy, statusOf}
 
 -- WHAT DECIDES: the shape, the kept classes, or the table
 module _ (op : Operation) (s : State) (z : Sizes) where

@@ -10,12 +10,13 @@ use Rattle.definition.specs.declared.Operation.{Operation}
 use Rattle.definition.specs.Blocks.{side, piecesOf}
 use Rattle.definition.specs.Units.{Lent}
 use Rattle.history.specs.History.{World, Out}
-use Rattle.history.specs.Ring.{Ring}
-use Rattle.history.specs.Steps.{steps}
-use Rattle.history.specs.Advance.{advanced, pickOut}
+use Rattle.history.proofs.Ring.{Ring}
+use Rattle.history.specs.Advance.{steps, advanced, pickOut}
 use Rattle.units.specs.declared.State.{State}
-use Rattle.units.specs.Step.{ring, stateAt, stepOf, OneRow}
-use Rattle.units.specs.Advances.{Answered, answer, statusOf, callOf, Gone}
+use Rattle.model.proofs.Step.{ring}
+use Rattle.units.specs.Step.{stateAt, stepOf, OneRow, Gone}
+use Rattle.units.specs.Advances.{Answered, answer, statusOf}
+use Rattle.definition.specs.Calls.{callOf}
 
 module _ (op : Operation) (l : Lent) (s₀ : State) (p₀ : List ℕ) where
   gone-none : Gone op l s₀ p₀ 0 s₀ p₀

@@ -6,7 +6,7 @@ use Rattle.definition.specs.declared.Operation.the-variants.{Luma, User, Pretra
 use Rattle.definition.specs.declared.Given.{Given}
 use Prim.Native.Nat.{ℕ}
 use Rattle.definition.specs.Units.{Lent}
-use Rattle.units.specs.Openings.{openStatus}
+use Rattle.definition.specs.Refusals.{openStatus}
 use Rattle.units.specs.Histories.{Histories}
 use Rattle.units.proofs.LumaHistory.{luma-history}
 use Rattle.units.proofs.ClassedHistory.{user-history, pretrained-history}

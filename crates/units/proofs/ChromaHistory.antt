@@ -15,24 +15,27 @@ use Rattle.definition.specs.Limits.{widthLimit, blockColumnLimit}
 use Rattle.definition.specs.Blocks.{side, maskAt, masked}
 use Rattle.definition.specs.Sample.{limit8, chromaSample}
 use Rattle.definition.specs.Units.{numberOf, Lent, around, lumaAround, step, setOf, finalSample}
-use Rattle.definition.specs.Refusals.{sizesOf}
-use Rattle.filter.specs.Runs.{coefficients}
+use Rattle.definition.specs.Refusals.{sizesOf, openStatus}
+use Rattle.definition.specs.Leaves.{coefficients}
 use Rattle.laws.proofs.Ints.{abs-mul, nonneg-add}
 use Rattle.laws.proofs.Lists.{tab-cong}
-use Rattle.history.specs.Ring.{Ring, fetch-sizes, fetch-low, window, slots-wrap, Rule, RingAt, append-low, slid-length}
-use Rattle.history.specs.Memory.{Memory, ring, both}
-use Rattle.history.specs.Theorem.{Shown, theorem}
-use Rattle.model.specs.Rows.{padRow, own, src, firstRow, pad-same, pad-size, ring-rule}
-use Rattle.model.specs.LumaRows.{lumaPadRow, luma-size, luma-first, luma-rule, luma-view, luma-centre, step-two}
-use Rattle.model.specs.Opening.{openRing, filled, filled-size, opens, opened-ring, src-starts}
-use Rattle.model.specs.Fine.{Fine, fine, row-room}
-use Rattle.model.specs.Views.{chroma-agree, viewAround, flat-view, pad-view, place-high, place-split}
+use Rattle.history.proofs.Ring.{Ring, fetch-sizes, fetch-low, window, slots-wrap, Rule, RingAt, append-low, slid-length}
+use Rattle.history.proofs.Memory.{Memory, ring, both}
+use Rattle.history.proofs.Theorem.{Shown, theorem}
+use Rattle.model.proofs.Rows.{padRow, own, src, firstRow, pad-same, pad-size, ring-rule}
+use Rattle.model.proofs.LumaRows.{lumaPadRow, luma-size, luma-first, luma-rule, luma-view, luma-centre, step-two}
+use Rattle.model.proofs.Opening.{openRing, filled, filled-size, opens, opened-ring, src-starts, openOwn, openLuma}
+use Rattle.model.proofs.Fine.{Fine, fine, row-room}
+use Rattle.model.proofs.Views.{chroma-agree, viewAround, flat-view, pad-view, place-high, place-split}
 use Rattle.units.specs.declared.State.{State}
-use Rattle.units.specs.Openings.{openState, openStatus, openOwn, openLuma}
-use Rattle.units.specs.Histories.{frameOf, Histories}
-use Rattle.units.specs.Cells.{cellOf, chromaUnmasked}
-use Rattle.units.specs.Step.{slidBy, stateAt, rowsNow, stateOf, planeOf}
-use Rattle.units.specs.Advances.{units, statusOf, callOf}
+use Rattle.units.specs.Openings.{openState}
+use Rattle.units.proofs.Frames.{frameOf}
+use Rattle.units.specs.Histories.{Histories}
+use Rattle.model.proofs.Cells.{cellOf, chromaUnmasked}
+use Rattle.model.proofs.Step.{slidBy}
+use Rattle.units.specs.Step.{stateAt, rowsNow, stateOf, planeOf}
+use Rattle.units.specs.Advances.{answer, units, statusOf}
+use Rattle.definition.specs.Calls.{callOf}
 use Rattle.units.proofs.Admissions.{passed}
 use Rattle.units.proofs.TwoRings.{getD-second, joined, both-took, both-moved}
 
@@ -274,4 +277,5 @@ module _ (n : Given) (l : Lent) (p₀ : List ℕ) (f : openStatus Chroma n l p�
 
   -- DEMAND 3
   pub chroma-history : Histories Chroma n l p₀
+  unfolding answer
   chroma-history = theorem units (frameOf Chroma n l p₀) mem (λ a. chromaSeen limit8 l (step G l)) there shown

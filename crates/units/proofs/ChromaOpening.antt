@@ -12,11 +12,11 @@ use Rattle.definition.specs.Rows.{rowBytes, lumaRowBytes, lumaRowsAt, stateByte
 use Rattle.definition.specs.declared.Operation.the-variants.{Chroma}
 use Rattle.definition.specs.declared.Given.{Given}
 use Rattle.definition.specs.Units.{Lent}
-use Rattle.model.specs.Rows.{padRow, firstRow, pad-size}
-use Rattle.model.specs.LumaRows.{lumaPadRow}
-use Rattle.model.specs.Opening.{filled, filledRows, filled-size, openRing}
-use Rattle.units.specs.Lent.{rowsLent, chromaLent, lumaRowsLent}
-use Rattle.units.specs.Openings.{openRings}
+use Rattle.model.proofs.Rows.{padRow, firstRow, pad-size}
+use Rattle.model.proofs.LumaRows.{lumaPadRow}
+use Rattle.model.proofs.Opening.{filled, filledRows, filled-size, openRing, openRings}
+use Rattle.units.specs.Lent.{rowsLent, lumaRowsLent}
+use Rattle.definition.specs.Calls.{chromaLent}
 use Rattle.units.proofs.TwoLists.{sets-first}
 use Rattle.units.proofs.Openings.{pad-lent, luma-lent}
 use Rattle.units.proofs.TwoRings.{take-first, drop-first}

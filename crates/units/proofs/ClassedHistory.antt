@@ -3,7 +3,7 @@
 use mathlib.Core.Path.{_≡_, refl, sym, _∙_, ap, subst}
 use mathlib.Core.Bool.{Bool, true, false, cond, not, _||_}
 use mathlib.Core.List.{List, [], _∷_}
-use Prim.Native.Nat.{ℕ, zero, suc, _+_, _*_, _-_, _/_, _%_, _≤_, _<_, zero-le}
+use Prim.Native.Nat.{ℕ, zero, suc, _+_, _*_, _-_, _/_, _%_, _≤_, _<_}
 use native.Mathlib.Nat.{zero-add}
 use native.Mathlib.Decide.{decLt}
 use native.Mathlib.Omega.{arith}
@@ -21,28 +21,30 @@ use Rattle.definition.specs.Rows.{tab, rowBytes, rowOrigin, lumaFlat, indexCoun
 use Rattle.definition.specs.Blocks.{side, masked, maskAt}
 use Rattle.definition.specs.Units.{border, Lent, around, classOf, setOf, setSize, finalSample, numberOf, classed}
 use Rattle.laws.proofs.Lists.{tab-cong, length-tab, getD-tab, sets-in, sets-behind}
-use Rattle.history.specs.Ring.{Ring, fetch, fetch-same, fetch-sizes, fetch-next, shift, window, wrap, slots-wrap, rowOf, row-same, row-other, set-low, Rule, Holds, RingAt, fetched, shifted, window-held, slid-length}
-use Rattle.history.specs.Memory.{Memory, From}
+use Rattle.history.proofs.Ring.{Ring, fetch, fetch-same, fetch-sizes, fetch-next, shift, window, wrap, slots-wrap, rowOf, row-same, row-other, set-low, Rule, Holds, RingAt, fetched, shifted, window-held, slid-length}
+use Rattle.history.proofs.Memory.{Memory, From}
 use lib.Dec.{T}
 use lib.Signed.{nonNeg}
-use Rattle.laws.proofs.Ints.{sub-pos}
-use Rattle.model.specs.Rows.{padRow, own, src, pad-same, pad-size, ring-rule, firstRow}
-use Rattle.model.specs.Views.{Agree, luma-agree, pretrained-agree, viewAround, flat-view, row-view, pad-view, place-high}
-use Rattle.model.specs.Classes.{Eight, class-same}
-use Rattle.definition.specs.Refusals.{rowsSize, sizesOf, every, badKept, indexLimit, nextLimit}
+use Rattle.laws.proofs.Ints.{sub-pos, never}
+use Rattle.model.proofs.Rows.{padRow, own, src, pad-same, pad-size, ring-rule, firstRow}
+use Rattle.model.proofs.Views.{Agree, luma-agree, pretrained-agree, viewAround, flat-view, row-view, pad-view, place-high}
+use Rattle.model.proofs.Classes.{Eight, class-same}
+use Rattle.definition.specs.Refusals.{rowsSize, sizesOf, every, badKept, indexLimit, nextLimit, openStatus}
 use Rattle.laws.proofs.Passes.{both, pass-all, not-both}
-use Rattle.model.specs.Fine.{Fine, fine, row-room}
-use Rattle.laws.proofs.Ints.{never}
-use Rattle.model.specs.Opening.{openRing, opens, filled, filled-size, openIndex}
-use Rattle.units.specs.Histories.{frameOf, Histories}
+use Rattle.model.proofs.Fine.{Fine, fine, row-room}
+use Rattle.model.proofs.Opening.{openRing, opens, filled, filled-size, openIndex, openRings, openTen}
+use Rattle.units.proofs.Frames.{frameOf}
+use Rattle.units.specs.Histories.{Histories}
 use Rattle.definition.specs.Sample.{limit8, lumaSample, pretrainedSample}
-use Rattle.history.specs.Theorem.{Shown, theorem}
+use Rattle.history.proofs.Theorem.{Shown, theorem}
 use Rattle.units.specs.declared.State.{State}
-use Rattle.units.specs.Openings.{openRings, openTen, openState, openStatus}
+use Rattle.units.specs.Openings.{openState}
 use Rattle.units.proofs.LumaHistory.{slot, zeros-low}
-use Rattle.units.specs.Cells.{cellOf, lumaUnmasked, pretrainedUnmasked}
-use Rattle.units.specs.Step.{newest as nearest, begins, withTenth, tenthToo, classAt, classesAt, stateAt, stepOf, stateOf, planeOf}
-use Rattle.units.specs.Advances.{units, statusOf, callOf}
+use Rattle.model.proofs.Cells.{cellOf, lumaUnmasked, pretrainedUnmasked}
+use Rattle.model.proofs.Step.{newest as nearest, begins, withTenth, tenthToo, classAt, classesAt}
+use Rattle.units.specs.Step.{stateAt, stepOf, stateOf, planeOf}
+use Rattle.units.specs.Advances.{answer, units, statusOf}
+use Rattle.definition.specs.Calls.{callOf}
 use Rattle.units.proofs.Admissions.{passed}
 
 -- the tenth row disturbs no row of the window
@@ -490,6 +492,7 @@ module _ (op : Operation) (four : border op ≡ 4) (ten₀ : (n : Given) (l : Le
 
     -- DEMAND 3
     pub classed-history : Histories op n l p₀
+    unfolding answer
     classed-history = theorem units (frameOf op n l p₀) mem (λ a. classedSeen l) there shown
 
 -- THE TWO OPERATIONS

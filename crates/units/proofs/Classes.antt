@@ -13,19 +13,17 @@ use lib.Seq.{sets}
 use borrow.Author.Tests.{ltb-true, le-ltb, le-leb, lt-leb}
 use Rattle.definition.specs.Limits.{blockColumnLimit, blockRowLimit, mapSize}
 use Rattle.definition.specs.declared.Given.{Given}
-use Rattle.definition.specs.Rows.{tab}
+use Rattle.definition.specs.Rows.{tab, orZero}
 use Rattle.definition.specs.ClassIndex.{bin, term, featureBin, indexOf, classIndex, lastColumn}
 use Rattle.definition.specs.Refusals.{every, rowsSize}
 use Rattle.definition.specs.Units.{Lent}
-use Rattle.features.specs.Features.{rowsStatus, rowStatus, blockFlat, featureRow, served}
-use Rattle.class_index.specs.Answers.{placeStatus}
-use Rattle.definition.specs.Rows.{orZero}
+use Rattle.definition.specs.Leaves.{rowsStatus, rowFeaturesStatus, blockFlat, featureRow, served, placeStatus}
 use Rattle.laws.proofs.Lists.{sets-in, sets-behind, length-tab, getD-tab}
 use Rattle.laws.proofs.Passes.{pass-all}
-use Rattle.history.specs.Ring.{Ring}
+use Rattle.history.proofs.Ring.{Ring}
 use Rattle.units.specs.Lent.{classLent}
 use Rattle.refusals.proofs.Every.{every-at}
-use Rattle.units.specs.Step.{classAt, ring}
+use Rattle.model.proofs.Step.{classAt, ring}
 
 pub bin-low : (v : ℤ) → bin v ≤ 7
 unfolding bin
@@ -42,13 +40,13 @@ index-low f₀ f₁ f₂ q t =
     omega (arith, a, b, c, d)
 
 -- the call for the features is not refused, and answers each block's
-features-serve : (rows : ℕ) (indices : List ℕ) (n : ℕ) → rowsSize ≤ rows → ((j : ℕ) → j < 10 → getD indices j 0 ≤ 9) → n ≤ blockColumnLimit → rowStatus rows indices n ≡ 0
+features-serve : (rows : ℕ) (indices : List ℕ) (n : ℕ) → rowsSize ≤ rows → ((j : ℕ) → j < 10 → getD indices j 0 ≤ 9) → n ≤ blockColumnLimit → rowFeaturesStatus rows indices n ≡ 0
 unfolding rowsStatus
 features-serve rows indices n size small few =
     rw (le-leb rowsSize rows size, pass-all (λ i. leb i 9) indices 10 (λ k h. le-leb (getD indices k 0) 9 (small k h)), le-leb n blockColumnLimit few)
 
 pub feature-at : (rows : ℕ) (indices : List ℕ) (n status bx : ℕ) (f : ℕ → ℕ) (r : List ℕ) → rowsSize ≤ rows → ((j : ℕ) → j < 10 → getD indices j 0 ≤ 9) → n ≤ blockColumnLimit → bx < n →
-    status ≡ rowStatus rows indices n → r ≡ featureRow (served status n) f → getD r bx 0 ≡ f bx
+    status ≡ rowFeaturesStatus rows indices n → r ≡ featureRow (served status n) f → getD r bx 0 ≡ f bx
 feature-at rows indices n status bx f r size small few l e is =
     let z : status ≡ 0 = e ∙ features-serve rows indices n size small few in
     let at : getD (featureRow n f) (0 + bx) 0 ≡ getD (tab n f) bx 0 =

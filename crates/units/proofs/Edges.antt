@@ -7,7 +7,7 @@ use Rattle.definition.specs.declared.Operation.{Operation}
 use Rattle.definition.specs.Padding.{hasTop, hasBottom, topIntegrated, bottomIntegrated}
 use Rattle.definition.specs.Units.{border, savedAbove}
 use Rattle.definition.specs.Refusals.{topRows, bottomRows, planeRows}
-use Rattle.model.specs.Rows.{belowRows}
+use Rattle.model.proofs.Rows.{belowRows}
 use Rattle.operations.proofs.Borders.{border-low}
 
 module _ (op : Operation) (edges : ℕ) where

@@ -11,7 +11,7 @@ use borrow.Author.Tests.{eqb-true, not-true, not-false, lt-ltb}
 use Rattle.definition.specs.Limits.{blockColumnLimit}
 use Rattle.laws.proofs.Passes.{not-both}
 use Rattle.definition.specs.Blocks.{masked, firstOf, stretchStart}
-use Rattle.blocks.specs.Answers.{blockStatus, endOf}
+use Rattle.definition.specs.Leaves.{blockStatus, endFrom}
 use Rattle.definition.specs.Rows.{orZero}
 use Rattle.blocks.proofs.First.{first-low, first-most, first-fails, first-holds}
 use Rattle.blocks.proofs.Told.{block-in}
@@ -43,7 +43,7 @@ module _ (mask : ℕ) (classes : List ℕ) (bx bw start : ℕ) (h : bw ≤ block
   pub all-kept : bw ≤ start → Kept mask bx bw
   all-kept g k a b = kept-before k a (omega arith)
 
-  pub class-stretch : (end : ℕ) → start < bw → end ≡ orZero (blockStatus bx bw) (endOf mask classes (stretchStart mask bx bw) bw) → ClassStretch mask classes bx bw start end
+  pub class-stretch : (end : ℕ) → start < bw → end ≡ orZero (blockStatus bx bw) (endFrom mask classes (stretchStart mask bx bw) bw) → ClassStretch mask classes bx bw start end
   class-stretch end g q =
       let z : blockStatus bx bw ≡ 0 = block-in bx bw h l in
       let t : ℕ → Bool = λ k. masked mask k || not (eqb (getD classes k 0) (getD classes start 0)) in

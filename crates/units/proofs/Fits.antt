@@ -16,15 +16,15 @@ use Rattle.definition.specs.Limits.{blockColumnLimit, mapSize}
 use Rattle.definition.specs.Rows.{indexCount, stateBytes}
 use Rattle.definition.specs.Padding.{bottomIntegrated}
 use Rattle.definition.specs.Units.{setSize, Lent, classed}
-use Rattle.definition.specs.Refusals.{sizesOf, beside, bottomRows, leftOf, rightOf, lumaRows, lumaOutside, lumaDown, lumaAbove, lumaTopRows, badKept, firstPass, every}
+use Rattle.definition.specs.Refusals.{sizesOf, beside, bottomRows, leftOf, rightOf, lumaOutside, lumaDown, lumaAbove, lumaTopRows, badKept, firstPass, every}
 use Rattle.laws.proofs.Passes.{pass-at, not-both}
 use Rattle.laws.proofs.Inside.{inside, unless}
-use Rattle.model.specs.Fine.{Fine}
+use Rattle.model.proofs.Fine.{Fine}
 use Rattle.operations.proofs.Chosen.{when-chroma, when-classed}
 use Rattle.units.specs.declared.State.{State}
-use Rattle.units.specs.Cells.{HasSet}
-use Rattle.units.specs.Windows.{LumaLie, Mapped, Sources, Fit, Ringed, Sound}
-use Rattle.units.specs.Step.{ring}
+use Rattle.model.proofs.Cells.{HasSet}
+use Rattle.units.specs.Windows.{LumaLie, Mapped, Fit, Sound}
+use Rattle.model.proofs.Step.{ring}
 use Rattle.units.proofs.Admissions.{Admitted, rows-lie, one-set, low-all}
 
 -- CHROMA: the luma rows lie inside

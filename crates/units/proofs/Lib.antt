@@ -17,6 +17,7 @@ pub mod LumaSources
 pub mod Fits
 pub mod OneRow
 pub mod ChromaOpening
+pub mod Frames
 pub mod LumaHistory
 pub mod ClassedHistory
 pub mod ChromaHistory

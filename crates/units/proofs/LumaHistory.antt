@@ -14,22 +14,24 @@ use Rattle.definition.specs.Rows.{tab, stateBytes, rowBytes, rowOrigin, lumaFla
 use Rattle.definition.specs.Blocks.{side, maskAt, masked}
 use Rattle.definition.specs.Sample.{limit8, lumaSample}
 use Rattle.definition.specs.Units.{numberOf, Lent, step, finalSample, around, setOf}
-use Rattle.definition.specs.Refusals.{sizesOf}
-use Rattle.filter.specs.Runs.{coefficients}
+use Rattle.definition.specs.Refusals.{sizesOf, openStatus}
+use Rattle.definition.specs.Leaves.{coefficients}
 use Rattle.laws.proofs.Lists.{tab-cong}
-use Rattle.history.specs.Ring.{Ring, shift, window, slots-wrap}
-use Rattle.history.specs.Memory.{Memory, ring}
-use Rattle.history.specs.Theorem.{Shown, theorem}
-use Rattle.model.specs.Rows.{padRow, own, src, pad-same, ring-rule}
-use Rattle.model.specs.Opening.{openRing, opens}
-use Rattle.model.specs.Fine.{Fine, fine, row-room}
-use Rattle.model.specs.Views.{luma-agree, viewAround, flat-view, pad-view, place-high}
+use Rattle.history.proofs.Ring.{Ring, shift, window, slots-wrap}
+use Rattle.history.proofs.Memory.{Memory, ring}
+use Rattle.history.proofs.Theorem.{Shown, theorem}
+use Rattle.model.proofs.Rows.{padRow, own, src, pad-same, ring-rule}
+use Rattle.model.proofs.Opening.{openRing, opens}
+use Rattle.model.proofs.Fine.{Fine, fine, row-room}
+use Rattle.model.proofs.Views.{luma-agree, viewAround, flat-view, pad-view, place-high}
 use Rattle.units.specs.declared.State.{State}
-use Rattle.units.specs.Openings.{openState, openStatus}
-use Rattle.units.specs.Histories.{frameOf, Histories}
-use Rattle.units.specs.Cells.{cellOf, lumaUnmasked}
+use Rattle.units.specs.Openings.{openState}
+use Rattle.units.proofs.Frames.{frameOf}
+use Rattle.units.specs.Histories.{Histories}
+use Rattle.model.proofs.Cells.{cellOf, lumaUnmasked}
 use Rattle.units.specs.Step.{stateOf, planeOf}
-use Rattle.units.specs.Advances.{units, statusOf, callOf}
+use Rattle.units.specs.Advances.{answer, units, statusOf}
+use Rattle.definition.specs.Calls.{callOf}
 use Rattle.units.proofs.Admissions.{passed}
 
 -- the slot of row R of nine
@@ -119,4 +121,5 @@ module _ (n : Given) (l : Lent) (p₀ : List ℕ) (f : openStatus Luma n l p₀ 
 
   -- DEMAND 3
   pub luma-history : Histories Luma n l p₀
+  unfolding answer
   luma-history = theorem units (frameOf Luma n l p₀) rows (λ a. lumaSeen limit8 l) there luma-shown

@@ -20,9 +20,9 @@ use Rattle.definition.specs.Refusals.{beside, bottomRows, lumaRows, lumaTopRows
 use Rattle.laws.proofs.Ints.{sub-pos}
 use Rattle.laws.proofs.Lists.{tab-cong}
 use Rattle.padding.proofs.Status.{given-inside-luma}
-use Rattle.padding.specs.Padded.{lumaStatus, lumaRow, lowerAt}
-use Rattle.model.specs.Rows.{firstRow}
-use Rattle.model.specs.LumaRows.{lumaPadRow}
+use Rattle.definition.specs.Leaves.{lumaStatus, backupLumaRow, lowerAt}
+use Rattle.model.proofs.Rows.{firstRow}
+use Rattle.model.proofs.LumaRows.{lumaPadRow}
 use Rattle.laws.proofs.Inside.{Inside}
 use Rattle.units.specs.LumaFrom.{lumaWidth, LumaFits, lumaFrom}
 use Rattle.units.proofs.Edges.{above-saved}
@@ -112,7 +112,7 @@ zeros (suc n) zero = refl
 zeros (suc n) (suc i) = zeros n i
 
 pub from-served : (g : Given) (src : List ℕ) (at stride : ℕ) {w : ℕ} → w ≡ lumaWidth g → LumaFits g (length src) at stride →
-    lumaRow (replicate lumaRowBytes 0) 6 src at stride w (g .edges) (g .«ss_hor») (g .«ss_ver») (g .kind) ≡ lumaFrom g src at stride
+    backupLumaRow (replicate lumaRowBytes 0) 6 src at stride w (g .edges) (g .«ss_hor») (g .«ss_ver») (g .kind) ≡ lumaFrom g src at stride
 from-served g src at stride e f =
     rw e
     (served _ (replicate lumaRowBytes 0) _ f ∙

@@ -19,14 +19,15 @@ use Rattle.definition.specs.Units.{border, classed, chromatic, setSize, Lent, s
 use Rattle.definition.specs.Refusals.{indexLimit, nextLimit}
 use Rattle.laws.proofs.Ints.{never}
 use Rattle.laws.proofs.Lists.{tab-cong}
-use Rattle.history.specs.Ring.{Ring, fetch, fetch-sizes, fetch-low, fetch-next-low, slid, slid-length, slid-low, set-low}
-use Rattle.model.specs.Rows.{padRow, own}
-use Rattle.model.specs.LumaRows.{lumaPadRow}
+use Rattle.history.proofs.Ring.{Ring, fetch, fetch-sizes, fetch-low, fetch-next-low, slid, slid-length, slid-low, set-low}
+use Rattle.model.proofs.Rows.{padRow, own}
+use Rattle.model.proofs.LumaRows.{lumaPadRow}
 use Rattle.operations.proofs.Chosen.{when-chroma, unless-chroma, when-classed}
 use Rattle.units.specs.Lent.{sourcesLent, rowsLent, classLent, lumaRowsLent}
-use Rattle.units.specs.Cells.{HasSet, cellOf}
+use Rattle.model.proofs.Cells.{HasSet, cellOf}
 use Rattle.units.specs.Windows.{Fit, Ringed, Sound}
-use Rattle.units.specs.Step.{ring, newest, begins, withTenth, fetchBehind, lumaToo, taken, classAt, classesBy, slidBy, stateAt, stateOf, planeOf, Fetched, LumaFetched, Taken, OneRow}
+use Rattle.model.proofs.Step.{ring, newest, begins, withTenth, fetchBehind, lumaToo, taken, classAt, classesBy, slidBy, Fetched, LumaFetched, Taken}
+use Rattle.units.specs.Step.{stateAt, stateOf, planeOf, OneRow}
 use Rattle.units.proofs.Openings.{pad-lent, luma-lent}
 use Rattle.units.proofs.Classes.{class-low, classes-are}
 use Rattle.units.proofs.Fits.{has-set}

@@ -11,13 +11,15 @@ use Rattle.definition.specs.Rows.{tab, lumaRowBytes, lumaRowsAt, stateBytes}
 use Rattle.definition.specs.Limits.{blockColumnLimit}
 use Rattle.definition.specs.Units.{border, numberOf, Lent, sampleAt, lumaAt, chromatic}
 use Rattle.laws.proofs.Ints.{sub-pos, sub-neg}
-use Rattle.model.specs.Rows.{padRow, firstRow}
-use Rattle.model.specs.LumaRows.{lumaPadRow}
-use Rattle.model.specs.Opening.{filled, filledRows, openRing, openIndex}
+use Rattle.model.proofs.Rows.{padRow, firstRow}
+use Rattle.model.proofs.LumaRows.{lumaPadRow}
+use Rattle.model.proofs.Opening.{filled, filledRows, openRing, openIndex, openTen, openRings}
 use Rattle.operations.proofs.Chosen.{unless-chroma}
 use Rattle.units.specs.declared.State.{State}
-use Rattle.units.specs.Lent.{chromaLent, rowsLent, lumaRowsLent}
-use Rattle.units.specs.Openings.{Begun, openState, openStatus, openTen, openRings, stateUnless, noState}
+use Rattle.definition.specs.Calls.{chromaLent}
+use Rattle.units.specs.Lent.{rowsLent, lumaRowsLent}
+use Rattle.units.specs.Openings.{Begun, openState, stateUnless, noState}
+use Rattle.definition.specs.Refusals.{openStatus}
 
 pub none-unless : (st : ℕ) (s : State) → (st ≡ 0 → ⊥) → noState ≡ stateUnless st s
 none-unless zero s ne = absurd (ne refl)

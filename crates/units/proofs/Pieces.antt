@@ -9,7 +9,7 @@ use native.Mathlib.Omega.{arith}
 use borrow.Author.Tests.{le-leb}
 use Rattle.definition.specs.Limits.{blockColumnLimit}
 use Rattle.definition.specs.Blocks.{maskAt, masked, clearBelow, piecesOf}
-use Rattle.blocks.specs.Answers.{rowStatus}
+use Rattle.definition.specs.Leaves.{rowStatus}
 use Rattle.definition.specs.Rows.{orZero}
 
 -- a row of blocks has at most a piece for each

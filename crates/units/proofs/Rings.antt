@@ -13,10 +13,10 @@ use Rattle.definition.specs.declared.Given.{Given}
 use Rattle.definition.specs.Rows.{tab, rowBytes}
 use Rattle.definition.specs.Units.{border, Lent}
 use Rattle.laws.proofs.Lists.{length-tab, getD-tab}
-use Rattle.history.specs.Ring.{wrap, slid}
-use Rattle.model.specs.Rows.{padRow, firstRow, own}
-use Rattle.model.specs.Opening.{filled, filledRows}
-use Rattle.units.specs.Step.{ring, Fetched}
+use Rattle.history.proofs.Ring.{wrap, slid}
+use Rattle.model.proofs.Rows.{padRow, firstRow, own}
+use Rattle.model.proofs.Opening.{filled, filledRows}
+use Rattle.model.proofs.Step.{ring, Fetched}
 
 module _ (op : Operation) (g : Given) (l : Lent) (p blank : List ℕ) where
   -- before the first row that is padded anew nothing is filled

@@ -17,9 +17,9 @@ use Rattle.definition.specs.Sample.{limit8}
 use Rattle.definition.specs.Refusals.{rowsSize, indicesUpTo}
 use Rattle.laws.proofs.Passes.{pass-all}
 use Rattle.laws.proofs.Lists.{tab-cong}
-use Rattle.filter.specs.Runs.{runStatus, uvStatus, coefficients, lumaRun, pretrainedRun, chromaRun}
+use Rattle.definition.specs.Leaves.{runStatus, uvStatus, coefficients, lumaRun, pretrainedRun, chromaRun}
 use Rattle.units.proofs.Stretches.{run-back}
-use Rattle.units.specs.Cells.{lumaUnmasked, pretrainedUnmasked, chromaUnmasked}
+use Rattle.model.proofs.Cells.{lumaUnmasked, pretrainedUnmasked, chromaUnmasked}
 
 indices-in : (limit : ℕ) (indices : List ℕ) → ((j : ℕ) → j < indexCount → getD indices j 0 ≤ limit) → indicesUpTo limit indices ≡ true
 indices-in limit indices h = pass-all (λ i. leb i limit) indices indexCount (λ j l. le-leb (getD indices j 0) limit (h j l))

@@ -2,7 +2,7 @@
 use mathlib.Core.Path.{_≡_, refl, _∙_, ap}
 use mathlib.Core.Bool.{cond}
 use mathlib.Core.List.{List}
-use Prim.Native.Nat.{ℕ, _+_, _*_, _-_, _≤_, _<_}
+use Prim.Native.Nat.{ℕ, _+_, _*_, _-_, _<_}
 use native.Mathlib.Nat.{zero-add}
 use lib.IntN.{ℤ, pos}
 use lib.ListN.{getD, replicate}
@@ -13,11 +13,11 @@ use Rattle.definition.specs.Rows.{tab, rowOrigin, lumaFlat, chromaFlat, chromaL
 use Rattle.definition.specs.Limits.{blockColumnLimit}
 use Rattle.definition.specs.Sample.{limit8}
 use Rattle.definition.specs.Units.{classed}
-use Rattle.filter.specs.Runs.{coefficients}
+use Rattle.definition.specs.Leaves.{coefficients}
 use Rattle.laws.proofs.Lists.{tab-cong}
-use Rattle.model.specs.Views.{luma-agree, pretrained-agree, chroma-agree}
-use Rattle.units.specs.Lent.{filtersOf}
-use Rattle.units.specs.Cells.{lumaUnmasked, pretrainedUnmasked, chromaUnmasked, unmasked, setStart, setFor, HasSet, unmaskedCell}
+use Rattle.model.proofs.Views.{luma-agree, pretrained-agree, chroma-agree}
+use Rattle.definition.specs.Calls.{filtersOf}
+use Rattle.model.proofs.Cells.{lumaUnmasked, pretrainedUnmasked, chromaUnmasked, unmasked, setStart, setFor, HasSet, unmaskedCell}
 
 -- the numbers of a set, from where it begins
 set-at : (op : Operation) (filters : List ℤ) (cls k : ℕ) → getD filters (setStart op cls + k) (pos 0) ≡ setFor op filters cls k

@@ -17,8 +17,8 @@ use Rattle.definition.specs.Padding.{hasLeft, hasRight, hasBottom, bottomIntegr
 use Rattle.definition.specs.Units.{border, Lent, unitRow, sampleAt, ownRow, planeRow, topRow, bottomRow, savedAbove}
 use Rattle.definition.specs.Refusals.{beside, topRows, bottomRows, planeRows, leftOf, rightOf}
 use Rattle.laws.proofs.Ints.{sub-pos, sub-neg}
-use Rattle.padding.specs.Padded.{backupStatus, lpfStatus, paddedRow}
-use Rattle.model.specs.Rows.{padRow, firstRow}
+use Rattle.definition.specs.Leaves.{backupStatus, lpfStatus, paddedRow}
+use Rattle.model.proofs.Rows.{padRow, firstRow}
 use Rattle.laws.proofs.Inside.{Inside}
 use Rattle.operations.proofs.Borders.{border-high}
 use Rattle.units.proofs.Edges.{above-saved, saved-above}

@@ -8,7 +8,7 @@ use native.Mathlib.Omega.{arith}
 use lib.ListN.{length, set, take, drop, replicate, length-set, length-drop, length-replicate, take-append-drop}
 use lib.Seq.{sets, set-append-left, take-set-le, take-set-lt, drop-set-lt, drop-set-add, length-take-le}
 use borrow.Author.Tests.{le-leb, lt-leb}
-use Rattle.model.specs.Opening.{filledRows}
+use Rattle.model.proofs.Opening.{filledRows}
 
 -- STORES IN a ++ b
 set-second-at : (a b : List ℕ) (i v : ℕ) → set (a ++ b) (length a + i) v ≡ a ++ set b i v

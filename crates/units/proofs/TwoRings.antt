@@ -6,16 +6,16 @@ use Prim.Native.Nat.{ℕ, zero, suc, _+_, _*_, _≤_, _<_, zero-le}
 use native.Mathlib.Numerals.{add-one}
 use native.Mathlib.Omega.{arith}
 use lib.ListN.{length, getD, set, take, drop, length-set, length-append, take-append-drop, List·getD-append}
-use lib.Seq.{sets, length-sets, set-append-left, length-take-le, getD-drop, take-append-seam, drop-append-seam, getD-append-add}
+use lib.Seq.{sets, length-sets, set-append-left, getD-drop, take-append-seam, drop-append-seam, getD-append-add}
 use Rattle.definition.specs.declared.Operation.the-variants.{Chroma}
 use Rattle.definition.specs.declared.Given.{Given}
 use Rattle.definition.specs.Rows.{rowBytes, lumaRowBytes, lumaRowsAt}
 use Rattle.definition.specs.Units.{Lent}
-use Rattle.history.specs.Ring.{Ring, fetch, fetch-sizes, shift, slid, slid-length, slid-low, set-low, append-low, wrap}
-use Rattle.model.specs.Rows.{padRow, own, pad-size}
-use Rattle.model.specs.LumaRows.{lumaPadRow}
+use Rattle.history.proofs.Ring.{Ring, fetch, slid, slid-length, slid-low, set-low, append-low, wrap}
+use Rattle.model.proofs.Rows.{padRow, own, pad-size}
+use Rattle.model.proofs.LumaRows.{lumaPadRow}
 use Rattle.units.proofs.TwoLists.{set-second, sets-first, sets-second}
-use Rattle.units.specs.Step.{ring, fetchBehind, taken, slidBy, LumaFetched}
+use Rattle.model.proofs.Step.{ring, fetchBehind, taken, slidBy, LumaFetched}
 
 -- TWO LISTS, one behind the other
 pub getD-second : (a b : List ℕ) (n i : ℕ) → length a ≡ n → getD (a ++ b) (n + i) 0 ≡ getD b i 0

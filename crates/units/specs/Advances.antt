@@ -1,31 +1,21 @@
--- An advance over any state: its status, and rows one after another. That these steps restore the definition's samples is the theorem of the histories, over a unit
--- that was opened.
+-- An advance over any state: its status, and rows one after another, each by the step of the model. That these steps restore the definition's samples is the theorem
+-- of the histories, over a unit that was opened.
 use mathlib.Core.Path.{_≡_}
 use mathlib.Core.Bool.{Bool, cond, not, _&&_, _||_}
 use mathlib.Core.List.{List}
 use Prim.Native.Nat.{ℕ, _/_}
 use lib.Dec.{eqb}
-use lib.ListN.{length}
 use Rattle.definition.specs.declared.Operation.{Operation}
 use Rattle.definition.specs.declared.Sizes.{Sizes}
 use Rattle.definition.specs.Blocks.{side, piecesOf}
-use Rattle.definition.specs.Units.{numberOf, Lent}
+use Rattle.definition.specs.Units.{numberOf}
+use Rattle.definition.specs.Calls.{Call}
 use Rattle.definition.specs.Refusals.{sizesOf, unitStatus, badShape, badKept}
 use Rattle.history.specs.History.{Out}
 use Rattle.history.specs.Advance.{Advancing, advanced}
-use Rattle.history.specs.Steps.{steps}
 use Rattle.units.specs.declared.State.{State}
 use Rattle.units.specs.declared.Advanced.{Advanced}
 use Rattle.units.specs.Step.{stepOf}
-
--- a call of advance: which operation, how many rows, and all that is lent besides the plane
-pub record Call : Type 0 where
-  pub op : Operation
-  pub count : ℕ
-  pub lent : Lent
-
-abbrev pub callOf : Operation → ℕ → Lent → Call
-callOf op count l = record { op = op; count = count; lent = l }
 
 -- 13: the state's shape, a number of no or another operation included, and the kept classes
 unfoldable pub badState : Operation → State → ℕ → Bool
@@ -65,9 +55,3 @@ pub record Answered (r : Advanced) (q : List ℕ) (o : Out State) : Type 0 where
   pub pieces : r .pieces ≡ o .pieces
   pub state : r .state ≡ o .state
   pub plane : q ≡ o .plane
-
--- ROWS, one after another: i steps lead from a state and a plane to these
-pub record Gone (op : Operation) (l : Lent) (s₀ : State) (p₀ : List ℕ) (i : ℕ) (s : State) (p : List ℕ) : Type 0 where
-  pub state : s ≡ steps (stepOf op l) i (record { state = s₀; plane = p₀ }) .state
-  pub plane : p ≡ steps (stepOf op l) i (record { state = s₀; plane = p₀ }) .plane
-  pub size : length p ≡ length p₀

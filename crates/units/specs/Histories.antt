@@ -1,35 +1,34 @@
--- A unit of any operation that was opened, as the theorem of the histories takes it.
+-- A unit of any operation that was opened, as histories speak of it, and demand 3 of it.
 use mathlib.Core.Bool.{true}
 use mathlib.Core.List.{List}
-use Prim.Native.Nat.{ℕ, _/_}
+use Prim.Native.Nat.{ℕ, _+_, _-_, _*_, _/_}
 use Rattle.definition.specs.declared.Operation.{Operation}
 use Rattle.definition.specs.declared.Given.{Given}
 use Rattle.definition.specs.Blocks.{side, piecesOf}
 use Rattle.definition.specs.Units.{Lent, finalSample}
+use Rattle.definition.specs.Calls.{Call, callOf}
 use Rattle.history.specs.History.{Opened, History, Valid, After}
-use Rattle.history.specs.Advance.{Frame, unitOf}
 use Rattle.units.specs.declared.State.{State}
 use Rattle.units.specs.Openings.{openState}
-use Rattle.units.specs.Advances.{Call, callOf, units}
+use Rattle.units.specs.Advances.{isFinished, answer}
 
-abbrev pub frameOf : Operation → Given → Lent → List ℕ → Frame State Call (Unit {0})
-frameOf op n l p =
+-- the unit that was opened over the plane p; from one advance to the next nothing changes of what is lent
+abbrev pub unit : Operation → Given → Lent → List ℕ → Opened State Call (Unit {0})
+unit op n l p =
     record {
-      own = λ a c. callOf op c l;
+      answer = answer;
+      own = λ a count. callOf op count l;
       ok = λ a. true;
+      rows = λ s. s .done;
+      complete = isFinished;
       w = n .w;
       h = n .h;
-      off = n .off;
-      stride = n .stride;
+      at = λ y x. n .off + y * n .stride + x;
       first = openState op n l p;
       plane = p;
       final = λ a y x. finalSample n l p op y x;
-      pieces = λ a k m. piecesOf (l .skip) (n .w / side) k m;
+      pieces = λ a k k′. piecesOf (l .skip) (n .w / side) k (k′ - k);
     }
-
--- the unit that was opened
-abbrev pub unit : Operation → Given → Lent → List ℕ → Opened State Call (Unit {0})
-unit op n l p = unitOf units (frameOf op n l p)
 
 -- DEMAND 3 of a unit: what holds after every history of it
 abbrev pub Histories : Operation → Given → Lent → List ℕ → Type 0

@@ -10,7 +10,7 @@ use lib.Seq.{sets}
 use Rattle.definition.specs.declared.Given.{Given}
 use Rattle.definition.specs.Rows.{tab, rowOrigin, lumaRowBytes}
 use Rattle.definition.specs.Padding.{rowAt, lumaPadded, evenOnly}
-use Rattle.padding.specs.Padded.{lumaStatus}
+use Rattle.definition.specs.Leaves.{lumaStatus}
 
 -- the width in luma samples
 abbrev pub lumaWidth : Given → ℕ

@@ -14,8 +14,8 @@ use Rattle.definition.specs.Padding.{hasLeft}
 use Rattle.definition.specs.Units.{border, classed, chromatic, setSize, Lent}
 use Rattle.definition.specs.Refusals.{topRows, bottomRows, planeRows, leftOf, rightOf, lumaAbove, lumaDown, lumaTopRows, every, indexLimit, nextLimit}
 use Rattle.laws.proofs.Inside.{Inside, Sized}
-use Rattle.history.specs.Ring.{Ring}
-use Rattle.units.specs.Cells.{HasSet}
+use Rattle.history.proofs.Ring.{Ring}
+use Rattle.model.proofs.Cells.{HasSet}
 
 -- THE UNIT'S OWN ROWS: those of the plane with the left list, the saved ones above and below
 pub record PlaneLies (op : Operation) (g : Given) (plane left : ℕ) : Type 0 where

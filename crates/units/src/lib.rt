@@ -1,9 +1,9 @@
 // Units that can be broken off between rows: open hands out a state, advance takes it with a row count and hands it back.
 ghost use mathlib.Core.Path.{_≡_};
 ghost use Rattle.definition.specs.declared.Operation.the-variants.{Luma, User, Pretrained, Chroma};
-ghost use Rattle.units.specs.Lent.{lumaLent, classedLent, chromaLent};
-ghost use Rattle.units.specs.Openings.{givenY, givenC, Begun};
-ghost use Rattle.units.specs.Advances.{callOf, isFinished, answer, Answered};
+ghost use Rattle.definition.specs.Calls.{lumaLent, classedLent, chromaLent, givenY, givenC, callOf};
+ghost use Rattle.units.specs.Openings.{Begun};
+ghost use Rattle.units.specs.Advances.{isFinished, answer, Answered};
 
 pub mod advance;
 mod chroma;

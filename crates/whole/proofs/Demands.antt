@@ -11,8 +11,10 @@ use Rattle.definition.specs.Units.{Lent, finalSample}
 use Rattle.history.specs.History.{opened, _▷_, advance, last}
 use Rattle.units.specs.declared.Opened.{Opened as Handed}
 use Rattle.units.specs.declared.Advanced.{Advanced}
-use Rattle.units.specs.Openings.{openState, openStatus, Begun}
-use Rattle.units.specs.Advances.{callOf, answer, Answered}
+use Rattle.units.specs.Openings.{openState, Begun}
+use Rattle.definition.specs.Refusals.{openStatus}
+use Rattle.definition.specs.Calls.{callOf}
+use Rattle.units.specs.Advances.{answer, Answered}
 use Rattle.units.specs.Histories.{unit, Histories}
 use Rattle.whole.specs.declared.Restored.{Restored}
 use Rattle.whole.specs.Whole.{Whole}

@@ -8,7 +8,7 @@ use Rattle.definition.specs.declared.Operation.{Operation}
 use Rattle.definition.specs.declared.Given.{Given}
 use Rattle.definition.specs.Blocks.{side, piecesOf}
 use Rattle.definition.specs.Units.{Lent, finalSample}
-use Rattle.units.specs.Openings.{openStatus}
+use Rattle.definition.specs.Refusals.{openStatus}
 use Rattle.whole.specs.declared.Restored.{Restored}
 
 -- THE WHOLE UNIT: where it is not declined each sample of the rectangle is the final one, and every other byte is as it was

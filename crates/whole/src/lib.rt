@@ -1,7 +1,6 @@
 // looprestoration.rs: the whole-unit operations. Each opens a unit and advances it by all its rows.
 ghost use Rattle.definition.specs.declared.Operation.the-variants.{Luma, User, Pretrained, Chroma};
-ghost use Rattle.units.specs.Lent.{unitLent, lumaLent, classedLent, chromaLent};
-ghost use Rattle.units.specs.Openings.{givenY, givenC};
+ghost use Rattle.definition.specs.Calls.{unitLent, lumaLent, classedLent, chromaLent, givenY, givenC};
 ghost use Rattle.whole.specs.Whole.{Whole};
 use definition::Given;
 use definition::Operation;

@@ -2,7 +2,7 @@
 use mathlib.Core.Path.{_≡_, refl}
 use native.Mathlib.Omega.{arith}
 use lib.Pow.{pow-pos}
-use Rattle.blocks.specs.Answers.{rowStatus}
+use Rattle.definition.specs.Leaves.{rowStatus}
 use Rattle.blocks.proofs.Bits.{one-shl, count}
 use Rattle.blocks.proofs.Told.{row-in, row-out}
 use borrow.Author.Needs.{needs}

@@ -6,7 +6,7 @@ use lib.Seq.{length-take-le}
 use Rattle.laws.proofs.Inside.{is-sized}
 use Rattle.definition.specs.Limits.{widthLimit, heightLimit}
 use Rattle.card_laws.proofs.Planes.{front}
-use Rattle.card_answer.specs.Answers.{planeOf, unitText}
+use Rattle.card_answer.specs.Put.{planeOf, unitText}
 use Rattle.card_answer.proofs.Texts.{put-then, head-short}
 use Rattle.card_answer.proofs.Restorations.{plane-long}
 use borrow.Author.Needs.{needs}

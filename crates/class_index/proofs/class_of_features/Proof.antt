@@ -5,7 +5,7 @@ use lib.IntN.{ℤ}
 use lib.ListN.{length}
 use mir.Facts.{toZ-ofZ}
 use Rattle.definition.specs.ClassIndex.{skipSum, skipFactor, indexOf}
-use Rattle.class_index.specs.Answers.{placeStatus}
+use Rattle.definition.specs.Leaves.{placeStatus}
 use Rattle.class_index.proofs.Statuses.{place-inside, index-refused, index-served}
 use borrow.Author.Needs.{needs}
 use Rattle.class_index.proofs.class_of_features.Statement.{statement}

@@ -5,7 +5,7 @@ use native.Mathlib.Omega.{arith}
 use borrow.Author.Needs.{needs}
 use borrow.Author.Tests.{not-true, not-false, lt-ltb, le-ltb}
 use Rattle.definition.specs.Refusals.{rowsSize, indicesUpTo, classStatus}
-use Rattle.class_index.specs.Answers.{badPlace}
+use Rattle.definition.specs.Leaves.{badPlace}
 use Rattle.class_index.proofs.Statuses.{place-tests}
 use Rattle.class_index.proofs.class_status.Statement.{statement}
 use Rattle.class_index.proofs.class_status.Tie as tie

@@ -7,7 +7,7 @@ use mir.Val.{toZ, ofZ}
 use mir.Facts.{toZ-ofZ}
 use Rattle.definition.specs.ClassIndex.{skipSum, skipFactor, indexOf, classIndex}
 use Rattle.definition.specs.Refusals.{classStatus}
-use Rattle.features.specs.Features.{blockFlat, featureAt, featureSums}
+use Rattle.definition.specs.Leaves.{blockFlat, featureAt, featureSums}
 use Rattle.features.proofs.Statuses.{block-inside}
 use Rattle.class_index.proofs.Statuses.{class-inside, index-refused, index-served}
 use borrow.Author.Needs.{needs}

@@ -4,7 +4,7 @@ use mathlib.Core.Bool.{true, false}
 use native.Mathlib.Omega.{arith}
 use borrow.Author.Needs.{needs}
 use borrow.Author.Tests.{lt-ltb, le-ltb}
-use Rattle.class_index.specs.Answers.{badPlace, placeStatus}
+use Rattle.definition.specs.Leaves.{badPlace, placeStatus}
 use Rattle.class_index.proofs.place_status.Statement.{statement}
 use Rattle.class_index.proofs.place_status.Tie as tie
 

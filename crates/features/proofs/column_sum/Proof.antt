@@ -1,7 +1,7 @@
 -- `features::column_sum` meets its contract: six bends are added up.
 use native.Mathlib.Omega.{arith}
 use borrow.Author.Needs.{needs}
-use Rattle.features.specs.Features.{columnBend}
+use Rattle.features.specs.Columns.{columnBend}
 use Rattle.features.proofs.Sums.{six-terms}
 use Rattle.features.proofs.column_sum.Statement.{statement}
 use Rattle.features.proofs.column_sum.Tie as tie

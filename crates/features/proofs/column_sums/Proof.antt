@@ -5,7 +5,7 @@ use native.Mathlib.Decide.{ℕ-discrete}
 use native.Mathlib.Omega.{arith}
 use lib.ListN.{length, getD, length-set}
 use lib.Seq.{getD-set-same, getD-set-other}
-use Rattle.features.specs.Features.{columnSum, columnCount, columnLimit}
+use Rattle.features.specs.Columns.{columnSum, columnCount, columnLimit}
 use Rattle.features.proofs.column_sums.Statement.{statement}
 use Rattle.features.proofs.column_sums.Tie as tie
 

@@ -7,7 +7,8 @@ use lib.IntN.{pos, _-ℤ_}
 use lib.ListN.{length, getD, length-set, replicate}
 use Rattle.definition.specs.Limits.{blockColumnLimit}
 use Rattle.laws.proofs.Lists.{sets-more}
-use Rattle.features.specs.Features.{featureAt, featureRow, columnSum, columnLimit}
+use Rattle.definition.specs.Leaves.{featureAt, featureRow}
+use Rattle.features.specs.Columns.{columnSum, columnLimit}
 use Rattle.features.proofs.Columns.{feature-is}
 use Rattle.features.proofs.feature_row.Statement.{statement}
 use Rattle.features.proofs.feature_row.Tie as tie

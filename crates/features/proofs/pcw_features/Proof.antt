@@ -6,7 +6,7 @@ use native.Mathlib.Omega.{arith}
 use borrow.Author.Needs.{needs}
 use borrow.Author.Tests.{leb-true}
 use Rattle.definition.specs.ClassIndex.{lastColumn}
-use Rattle.features.specs.Features.{TenRows}
+use Rattle.features.specs.Columns.{TenRows}
 use Rattle.features.proofs.Statuses.{rows-inside, no-sums}
 use Rattle.features.proofs.pcw_features.Statement.{statement}
 use Rattle.features.proofs.pcw_features.Tie as tie

@@ -5,7 +5,7 @@ use native.Mathlib.Omega.{arith}
 use borrow.Author.Needs.{needs}
 use borrow.Author.Tests.{leb-true}
 use Rattle.definition.specs.Limits.{blockColumnLimit}
-use Rattle.features.specs.Features.{TenRows}
+use Rattle.features.specs.Columns.{TenRows}
 use Rattle.features.proofs.Statuses.{rows-inside, none-served}
 use Rattle.features.proofs.row_features.Statement.{statement}
 use Rattle.features.proofs.row_features.Tie as tie

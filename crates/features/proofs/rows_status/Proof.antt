@@ -4,7 +4,7 @@ use mathlib.Core.Bool.{true, false}
 use native.Mathlib.Omega.{arith}
 use borrow.Author.Tests.{not-true, not-false, le-leb, lt-leb}
 use Rattle.definition.specs.Refusals.{rowsSize, indicesUpTo}
-use Rattle.features.specs.Features.{rowsStatus}
+use Rattle.definition.specs.Leaves.{rowsStatus}
 use borrow.Author.Needs.{needs}
 use Rattle.features.proofs.rows_status.Statement.{statement}
 use Rattle.features.proofs.rows_status.Tie as tie

@@ -5,7 +5,7 @@ use native.Mathlib.Omega.{arith}
 use lib.ListN.{getD}
 use Rattle.definition.specs.Numbers.{sumN}
 use Rattle.laws.proofs.Sums.{sumN-suc}
-use Rattle.features.specs.Features.{columnLimit}
+use Rattle.features.specs.Columns.{columnLimit}
 use Rattle.features.proofs.Sums.{sum-none}
 use Rattle.features.proofs.six.Statement.{statement}
 use Rattle.features.proofs.six.Tie as tie

@@ -6,7 +6,7 @@ use lib.Dec.{lit≤}
 use lib.ListN.{length}
 use Rattle.definition.specs.Rows.{lumaFlat}
 use Rattle.definition.specs.Sample.{limit8, lumaSample}
-use Rattle.filter.specs.Runs.{runStatus, coefficients}
+use Rattle.definition.specs.Leaves.{runStatus, coefficients}
 use Rattle.filter.specs.Windows.{OwnInside}
 use Rattle.filter.proofs.Statuses.{run-inside, eight-inside}
 use Rattle.filter.proofs.Groups.{as-long}

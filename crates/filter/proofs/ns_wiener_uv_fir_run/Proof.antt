@@ -5,7 +5,7 @@ use mathlib.Core.Path.{_≡_, sym, _∙_}
 use mathlib.Core.List.{List}
 use Prim.Native.Nat.{ℕ, _-_, _*_}
 use lib.ListN.{length}
-use Rattle.filter.specs.Runs.{uvStatus, chromaRun}
+use Rattle.definition.specs.Leaves.{uvStatus, chromaRun}
 use Rattle.filter.specs.Gathered.{Gathered, compactRun}
 use Rattle.filter.proofs.Gathering.{gathered-run}
 use Rattle.filter.proofs.Groups.{as-long}

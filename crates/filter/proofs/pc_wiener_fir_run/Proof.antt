@@ -8,7 +8,7 @@ use mir.Syntax.{w32}
 use mir.Val.{toZ}
 use Rattle.definition.specs.Rows.{lumaFlat}
 use Rattle.definition.specs.Sample.{limit8, pretrainedSample}
-use Rattle.filter.specs.Runs.{runStatus, coefficients}
+use Rattle.definition.specs.Leaves.{runStatus, coefficients}
 use Rattle.filter.specs.Windows.{OwnInside, TakenOff}
 use Rattle.filter.proofs.Lessened.{passed-off}
 use Rattle.filter.proofs.Statuses.{run-inside, eight-inside}

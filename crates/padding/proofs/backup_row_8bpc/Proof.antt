@@ -2,7 +2,7 @@
 use mathlib.Core.Path.{_≡_, sym, _∙_}
 use lib.ListN.{length}
 use borrow.Author.Needs.{needs}
-use Rattle.padding.specs.Padded.{backupStatus}
+use Rattle.definition.specs.Leaves.{backupStatus}
 use Rattle.laws.proofs.Passes.{refused}
 use Rattle.padding.proofs.Status.{given-inside}
 use Rattle.padding.proofs.backup_row_8bpc.Statement.{statement}

@@ -1,7 +1,6 @@
 -- `paused::restore_paused` meets its contract: demand 3 at the history of its calls (Histories).
 use mathlib.Core.Path.{refl, sym, _∙_}
-use Rattle.units.specs.Openings.{givenY}
-use Rattle.units.specs.Lent.{lumaLent}
+use Rattle.definition.specs.Calls.{givenY, lumaLent}
 use Rattle.paused.proofs.Histories.{paused-whole, early-size}
 use borrow.Author.Needs.{needs}
 use Rattle.paused.proofs.restore_paused.Statement.{statement}

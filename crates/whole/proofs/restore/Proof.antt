@@ -6,7 +6,7 @@ use mir.Val.{toZ, ofZ}
 use mir.Facts.{toZ-ofZ}
 use borrow.Author.Needs.{needs}
 use Rattle.definition.specs.Units.{Lent}
-use Rattle.units.specs.Lent.{unitLent}
+use Rattle.definition.specs.Calls.{unitLent}
 use Rattle.units.proofs.AllHistories.{histories}
 use Rattle.whole.proofs.Demands.{whole-at, whole-none}
 use Rattle.whole.proofs.restore.Statement.{statement}

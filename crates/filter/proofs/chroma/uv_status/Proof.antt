@@ -6,7 +6,7 @@ use mathlib.Core.Path.{_≡_, sym, _∙_}
 use mathlib.Core.Bool.{true}
 use borrow.Author.Tests.{lt-leb, le-leb, not-true, not-false}
 use Rattle.definition.specs.Rows.{stateBytes}
-use Rattle.filter.specs.Runs.{uvStatus}
+use Rattle.definition.specs.Leaves.{uvStatus}
 use Rattle.filter.specs.Windows.{ownInside}
 use Rattle.filter.proofs.Statuses.{own-window}
 use Rattle.filter.proofs.chroma.uv_status.Statement.{statement}

@@ -8,7 +8,7 @@ use mir.Syntax.{w8, w16}
 use mir.Val.{ofZ}
 use mir.Facts.{toZ-ofZ}
 use Rattle.laws.proofs.Held.{Held, cast, cast-fits}
-use Rattle.filter.specs.Runs.{coefficients}
+use Rattle.definition.specs.Leaves.{coefficients}
 use Rattle.filter.specs.Groups.{smallLimit}
 use Rattle.filter.proofs.Steps.{ns-tap-is, stepped-by}
 use Rattle.filter.proofs.Groups.{small-number}

@@ -10,7 +10,7 @@ use Rattle.definition.specs.Rows.{lumaFlat}
 use Rattle.definition.specs.Sample.{centre}
 use Rattle.laws.proofs.Sums.{begun}
 use Rattle.laws.proofs.Held.{Held, kept, under, plus, plus-fits}
-use Rattle.filter.specs.Runs.{coefficients}
+use Rattle.definition.specs.Leaves.{coefficients}
 use Rattle.filter.specs.Windows.{takenOffLimit, centreLimit}
 use Rattle.filter.proofs.pretrained.pc_start.Statement.{statement}
 use Rattle.filter.proofs.pretrained.pc_start.Tie as tie

@@ -12,7 +12,7 @@ use mir.Val.{ofZ}
 use Rattle.definition.specs.Numbers.{sumZ}
 use Rattle.definition.specs.Sample.{limit8}
 use Rattle.laws.proofs.Held.{Held, castB, natural, typed, cast, cast-fits, plus, plus-fits, times, times-fits}
-use Rattle.filter.specs.Runs.{coefficients}
+use Rattle.definition.specs.Leaves.{coefficients}
 use Rattle.filter.proofs.pretrained.taken_off.Statement.{statement}
 use Rattle.filter.proofs.pretrained.taken_off.Tie as tie
 

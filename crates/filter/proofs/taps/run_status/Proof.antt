@@ -3,7 +3,7 @@ use borrow.Author.Needs.{needs}
 use mathlib.Core.Path.{sym, ap, _∙_}
 use borrow.Author.Tests.{not-true, not-false}
 use Rattle.definition.specs.Rows.{outsideUnless}
-use Rattle.filter.specs.Runs.{runStatus}
+use Rattle.definition.specs.Leaves.{runStatus}
 use Rattle.filter.proofs.taps.run_status.Statement.{statement}
 use Rattle.filter.proofs.taps.run_status.Tie as tie
 

@@ -9,7 +9,7 @@ use borrow.Author.Needs.{needs}
 use Rattle.definition.specs.Rows.{outsideUnless}
 use Rattle.definition.specs.Padding.{hasLeft, hasRight}
 use Rattle.definition.specs.Refusals.{beside}
-use Rattle.padding.specs.Padded.{backupStatus}
+use Rattle.definition.specs.Leaves.{backupStatus}
 use Rattle.padding.proofs.backup_row.backup_status.Statement.{statement}
 use Rattle.padding.proofs.backup_row.backup_status.Tie as tie
 

@@ -5,7 +5,7 @@ use native.Mathlib.Omega.{arith}
 use lib.ListN.{length}
 use borrow.Author.Needs.{needs}
 use Rattle.definition.specs.Padding.{hasLeft, hasRight, lastSampled}
-use Rattle.padding.specs.Padded.{source}
+use Rattle.definition.specs.Leaves.{source}
 use Rattle.padding.proofs.Columns.{lower-again, last-inside, last-even}
 use Rattle.padding.proofs.Luma.{Side, side-of, source-below, part-length, luma-done}
 use Rattle.padding.proofs.backup_row_luma.luma_row_into.Statement.{statement}

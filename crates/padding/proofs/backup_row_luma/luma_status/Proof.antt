@@ -10,7 +10,7 @@ use borrow.Author.Needs.{needs}
 use Rattle.definition.specs.Rows.{outsideUnless}
 use Rattle.definition.specs.Padding.{hasLeft, hasRight}
 use Rattle.definition.specs.Refusals.{beside}
-use Rattle.padding.specs.Padded.{lumaStatus, lowerAt, targetInside}
+use Rattle.definition.specs.Leaves.{lumaStatus, lowerAt, targetInside}
 use Rattle.padding.proofs.Around.{beside-inside}
 use Rattle.padding.proofs.backup_row_luma.luma_status.Statement.{statement}
 use Rattle.padding.proofs.backup_row_luma.luma_status.Tie as tie

@@ -9,7 +9,7 @@ use mir.Facts.{toZ-ofZ}
 use Rattle.definition.specs.Limits.{blockColumnLimit}
 use Rattle.definition.specs.Rows.{indexCount, stateBytes}
 use Rattle.definition.specs.Units.{Lent}
-use Rattle.units.specs.Lent.{unitLent}
+use Rattle.definition.specs.Calls.{unitLent}
 use Rattle.units.specs.Advances.{statusBy}
 use Rattle.units.proofs.Admissions.{Admitted, admitted}
 use Rattle.units.proofs.Advances.{declined, gone-all}

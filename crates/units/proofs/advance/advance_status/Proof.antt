@@ -4,7 +4,8 @@ use borrow.Author.Needs.{needs}
 use Rattle.units.proofs.Admissions.{misshapen, kept-past, well-shaped}
 use Rattle.units.proofs.advance.advance_status.Statement.{statement}
 use Rattle.units.proofs.advance.advance_status.Tie as tie
-use Rattle.units.specs.Step.{ring, stateAt}
+use Rattle.model.proofs.Step.{ring}
+use Rattle.units.specs.Step.{stateAt}
 
 number-of-requires : tie.Need-number-of-requires
 number-of-requires c κs = search needs

@@ -9,13 +9,13 @@ use mir.Val.{toZ, ofZ}
 use mir.Facts.{toZ-ofZ}
 use Rattle.definition.specs.Units.{Lent}
 use Rattle.units.specs.declared.State.{State}
-use Rattle.units.specs.Lent.{filtersOf, unitLent}
+use Rattle.definition.specs.Calls.{filtersOf, unitLent}
 use Rattle.units.proofs.Advances.{gone-first, gone-row}
 use Rattle.units.proofs.advance.restored_rows.Statement.{statement}
 use Rattle.units.proofs.advance.restored_rows.Tie as tie
 use Rattle.units.specs.Windows.{Sound}
-use Rattle.units.specs.Step.{ring, stateAt}
-use Rattle.units.specs.Advances.{Gone}
+use Rattle.model.proofs.Step.{ring}
+use Rattle.units.specs.Step.{stateAt, Gone}
 
 abbrev Inv-loop : tie.InvT-loop
 Inv-loop op g start n p₀ left top bottom filters wide map subclass noskip base-q luma luma-top luma-bottom skip rows₀ indices₀ next classes₀ turned₀ i₀ p rows indices classes turned i =

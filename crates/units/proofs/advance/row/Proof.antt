@@ -6,7 +6,7 @@ use mir.Syntax.{w32}
 use mir.Val.{toZ, ofZ}
 use mir.Facts.{toZ-ofZ}
 use Rattle.definition.specs.Units.{Lent}
-use Rattle.units.specs.Lent.{unitLent}
+use Rattle.definition.specs.Calls.{unitLent}
 use Rattle.operations.proofs.Borders.{step-is}
 use Rattle.units.proofs.Sources.{plane-inside}
 use Rattle.units.proofs.OneRow.{taken-lent, taken-sound, slid-sound, stepped}

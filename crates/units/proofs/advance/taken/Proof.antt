@@ -1,6 +1,6 @@
 -- `advance::taken` meets its contract: the newest row, then by the operation the newest luma row, nothing, or at the start of a block row its classes.
 use mathlib.Core.Path.{_≡_, sym, _∙_}
-use mathlib.Core.Bool.{true, false}
+use mathlib.Core.Bool.{true}
 use Prim.Native.Nat.{ℕ, _≤_}
 use lib.ListN.{getD}
 use mir.Syntax.{w32}
@@ -12,7 +12,7 @@ use Rattle.definition.specs.Units.{Lent, classed, chromatic}
 use Rattle.definition.specs.Refusals.{indexLimit, nextLimit}
 use Rattle.operations.proofs.Chosen.{when-chroma, when-classed}
 use Rattle.units.specs.Lent.{sourcesLent}
-use Rattle.units.specs.Step.{ring}
+use Rattle.model.proofs.Step.{ring}
 use Rattle.units.proofs.OneRow.{limits, fetched-ringed, taken-luma, taken-chroma, taken-within, taken-begins}
 use Rattle.units.proofs.advance.taken.Statement.{statement}
 use Rattle.units.proofs.advance.taken.Tie as tie

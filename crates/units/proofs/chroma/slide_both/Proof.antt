@@ -6,7 +6,7 @@ use native.Mathlib.Omega.{arith}
 use lib.ListN.{length, take, drop, take-append-drop}
 use lib.Seq.{length-take-le}
 use borrow.Author.Needs.{needs}
-use Rattle.history.specs.Ring.{slid}
+use Rattle.history.proofs.Ring.{slid}
 use Rattle.units.proofs.TwoRings.{both-slid}
 use Rattle.units.proofs.chroma.slide_both.Statement.{statement}
 use Rattle.units.proofs.chroma.slide_both.Tie as tie

@@ -10,7 +10,7 @@ use mir.Facts.{toZ-ofZ}
 use Rattle.definition.specs.Rows.{rowBytes}
 use Rattle.definition.specs.Units.{border}
 use Rattle.operations.proofs.Chosen.{when-classed}
-use Rattle.history.specs.Ring.{set-low}
+use Rattle.history.proofs.Ring.{set-low}
 use borrow.Author.Needs.{needs}
 use Rattle.units.proofs.classed.block_row.Statement.{statement}
 use Rattle.units.proofs.classed.block_row.Tie as tie

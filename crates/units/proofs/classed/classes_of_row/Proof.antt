@@ -13,13 +13,13 @@ use Rattle.definition.specs.Blocks.{side}
 use Rattle.definition.specs.Limits.{blockColumnLimit}
 use Rattle.definition.specs.Rows.{tab, stateBytes}
 use Rattle.definition.specs.ClassIndex.{skipSum, indexOf}
-use Rattle.features.specs.Features.{featureAt}
+use Rattle.definition.specs.Leaves.{featureAt}
 use Rattle.laws.proofs.Lists.{sets-more, tab-cong}
 use Rattle.units.specs.Lent.{classLent}
 use Rattle.units.proofs.Classes.{classBy, class-is, feature-at}
 use Rattle.units.proofs.classed.classes_of_row.Statement.{statement}
 use Rattle.units.proofs.classed.classes_of_row.Tie as tie
-use Rattle.units.specs.Step.{ring, classAt}
+use Rattle.model.proofs.Step.{ring, classAt}
 
 abbrev Inv-loop : tie.InvT-loop
 Inv-loop done rows indices noskip base-q map subclass classes₀ n by bh vertical falling rising bx₀ classes bx =

@@ -6,9 +6,9 @@ use native.Mathlib.Omega.{arith}
 use lib.ListN.{take, replicate}
 use Rattle.definition.specs.Rows.{lumaRowBytes, lumaRowsAt}
 use Rattle.definition.specs.declared.Operation.the-variants.{Chroma}
-use Rattle.model.specs.Rows.{firstRow}
-use Rattle.model.specs.Opening.{filledRows}
-use Rattle.model.specs.LumaRows.{lumaPadRow}
+use Rattle.model.proofs.Rows.{firstRow}
+use Rattle.model.proofs.Opening.{filledRows}
+use Rattle.model.proofs.LumaRows.{lumaPadRow}
 use Rattle.units.specs.Lent.{lumaRowsLent}
 use Rattle.units.proofs.TwoLists.{front-size, behind-none, behind-more}
 use Rattle.units.proofs.luma_rows.open_luma_rows.Statement.{statement}

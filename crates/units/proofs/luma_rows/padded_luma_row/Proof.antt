@@ -2,8 +2,7 @@
 use mathlib.Core.Path.{_≡_, _∙_, ap}
 use Prim.Native.Nat.{_+_, _-_}
 use native.Mathlib.Omega.{arith}
-use borrow.Author.Needs.{needs}
-use Rattle.model.specs.LumaRows.{lumaPadRow}
+use Rattle.model.proofs.LumaRows.{lumaPadRow}
 use Rattle.units.proofs.Openings.{luma-lower, luma-upper}
 use Rattle.units.proofs.luma_rows.padded_luma_row.Statement.{statement}
 use Rattle.units.proofs.luma_rows.padded_luma_row.Tie as tie

@@ -1,5 +1,5 @@
 -- `opening::first_indices` meets its contract, by the operation.
-use Rattle.model.specs.Opening.{openRing}
+use Rattle.model.proofs.Opening.{openRing}
 use mathlib.Core.Path.{sym, _∙_}
 use Rattle.operations.proofs.Chosen.{chroma-is}
 use Rattle.units.proofs.Openings.{first-indices}

@@ -1,6 +1,6 @@
 -- `opening::first_rows` meets its contract, by the operation.
 use mathlib.Core.List.{[]}
-use Rattle.units.specs.Lent.{chromaLent}
+use Rattle.definition.specs.Calls.{chromaLent}
 use mathlib.Core.Path.{sym, _∙_}
 use Rattle.operations.proofs.Chosen.{chroma-is}
 use Rattle.units.proofs.Openings.{first-rows}

@@ -1,6 +1,6 @@
 -- `opening::first_state` meets its contract: made of the rows and the indices.
 use mathlib.Core.List.{[]}
-use Rattle.units.specs.Lent.{chromaLent}
+use Rattle.definition.specs.Calls.{chromaLent}
 use Rattle.units.proofs.Openings.{first-state}
 use borrow.Author.Needs.{needs}
 use Rattle.units.proofs.opening.first_state.Statement.{statement}

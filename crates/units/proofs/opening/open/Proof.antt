@@ -3,8 +3,8 @@ use mathlib.Core.Path.{sym, _∙_, ap}
 use lib.IntN.{ℤ, pos}
 use Rattle.definition.specs.Units.{Lent}
 use Rattle.definition.specs.Refusals.{sizesOf, unitStatus}
-use Rattle.model.specs.Fine.{fine}
-use Rattle.units.specs.Lent.{unitLent}
+use Rattle.model.proofs.Fine.{fine}
+use Rattle.definition.specs.Calls.{unitLent}
 use Rattle.units.proofs.Fits.{fit}
 use Rattle.units.proofs.Openings.{begun-none, begun-first}
 use borrow.Author.Needs.{needs}

@@ -11,8 +11,8 @@ use Rattle.definition.specs.declared.Operation.{Operation}
 use Rattle.definition.specs.Blocks.{side, masked}
 use Rattle.definition.specs.Sample.{limit8}
 use Rattle.laws.proofs.Lists.{tab-cong}
-use Rattle.units.specs.Lent.{filtersOf}
-use Rattle.units.specs.Cells.{unmasked, setFor, unmaskedCell, cellOf}
+use Rattle.definition.specs.Calls.{filtersOf}
+use Rattle.model.proofs.Cells.{unmasked, setFor, unmaskedCell, cellOf}
 use Rattle.units.proofs.Firsts.{ClassStretch, class-stretch, all-kept}
 use Rattle.units.proofs.Samples.{told-sets, told-cells}
 use Rattle.units.proofs.Stretches.{Done, none-done, kept-more, run-more, row-done}

@@ -6,8 +6,8 @@ use lib.Seq.{sets}
 use borrow.Author.Needs.{needs}
 use Rattle.definition.specs.Rows.{rowBytes}
 use Rattle.definition.specs.Units.{border}
-use Rattle.model.specs.Rows.{first-low}
-use Rattle.model.specs.Opening.{filled}
+use Rattle.model.proofs.Rows.{first-low}
+use Rattle.model.proofs.Opening.{filled}
 use Rattle.units.specs.Lent.{rowsLent}
 use Rattle.operations.proofs.Borders.{border-high}
 use Rattle.units.proofs.Rings.{filled-none, filled-more}

@@ -4,7 +4,7 @@ use Prim.Native.Nat.{ℕ, _+_, _-_}
 use native.Mathlib.Omega.{arith}
 use borrow.Author.Needs.{needs}
 use Rattle.definition.specs.Units.{border}
-use Rattle.model.specs.Rows.{padRow}
+use Rattle.model.proofs.Rows.{padRow}
 use Rattle.units.proofs.Openings.{pad-lower}
 use Rattle.units.proofs.Sources.{top-inside, top-fits, top-is}
 use Rattle.units.proofs.rows.padded_row.Statement.{statement}

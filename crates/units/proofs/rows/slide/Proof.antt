@@ -3,7 +3,7 @@ use mathlib.Core.Path.{_≡_, refl}
 use Prim.Native.Nat.{_-_, _≤_}
 use native.Mathlib.Omega.{arith}
 use borrow.Author.Needs.{needs}
-use Rattle.history.specs.Ring.{slid}
+use Rattle.history.proofs.Ring.{slid}
 use Rattle.units.proofs.Rings.{slid-more}
 use Rattle.units.proofs.rows.slide.Statement.{statement}
 use Rattle.units.proofs.rows.slide.Tie as tie

@@ -1,6 +1,0 @@
-pub mod Rows
-pub mod Opening
-pub mod Fine
-pub mod Views
-pub mod LumaRows
-pub mod Classes
