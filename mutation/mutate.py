@@ -181,12 +181,13 @@ ABOVE = ('samples laws model vectors intops bounds operations blocks history car
          ' whole card_answer paused gihvendu').split()
 # the crates that lean on a file most: they are tried first, behind `samples`
 NEAREST = {'Card': 'card_reader card_answer', 'Refusals': 'model operations refusals', 'ClassIndex': 'qval class_index features model', 'Sample': 'model vectors filter',
-           'Padding': 'model operations padding', 'Blocks': 'blocks vectors', 'Units': 'model vectors', 'Rows': 'blocks features padding', 'Numbers': 'intops qval'}
+           'Padding': 'model operations padding', 'Blocks': 'blocks vectors', 'Units': 'model vectors', 'Rows': 'blocks features padding', 'Numbers': 'intops qval',
+           'Leaves': 'blocks qval features class_index padding filter', 'Calls': 'card_answer units', 'Limits': 'bounds refusals'}
 RULE = re.compile(r'[()]|"(?:\\.|[^"\\])*"|[^\s();]+|;')
 TURNED = {'ltb': ['leb'], 'leb': ['ltb'], '+': ['-'], '-': ['+'], '*': ['+'], '/': ['%'], '%': ['/'], '+ℤ': ['-ℤ'], '-ℤ': ['+ℤ'], '*ℤ': ['+ℤ'],
           '&&': ['||'], '||': ['&&'], 'min': ['max'], 'true': ['false'], 'false': ['true'], 'not': [''], 'pos': ['negsuc'], 'negsuc': ['pos']}
-SIBLINGS = ('hasLeft hasRight,hasTop hasBottom,topIntegrated bottomIntegrated,.w .h,.ssHor .ssVer,.top .bottom,.topOff .bottomOff,.lumaTop .lumaBottom,'
-            '.lumaTopOff .lumaBottomOff,.stride .lumaStride,vertical step,upperSaved lowerSaved,topRow bottomRow,lumaTopRow lumaBottomRow,'
+SIBLINGS = ('hasLeft hasRight,hasTop hasBottom,topIntegrated bottomIntegrated,.w .h,.«ss_hor» .«ss_ver»,.top .bottom,.«top_off» .«bottom_off»,.lumaTop .lumaBottom,'
+            '.«luma_top_off» .«luma_bottom_off»,.stride .«luma_stride»,vertical step,upperSaved lowerSaved,topRow bottomRow,lumaTopRow lumaBottomRow,'
             'planeRow ownRow,upper lower,leftOf rightOf,widthLimit heightLimit,leastI32 mostI32,dyOf dxOf,newline comma,rowBytes lumaRowBytes')
 for pair in SIBLINGS.split(','):
     one, other = pair.split()
@@ -443,6 +444,7 @@ def main():
     p.add_argument('--together', type=int, default=1, help='mutants of a program in one check')
     p.add_argument('--seconds', type=int, default=600, help='time for one check')
     p.add_argument('--log', default=os.path.join(ROOT, 'target/mutants.log'))
+    p.add_argument('--files', help='only of these files, by their names without the ending: Leaves,Calls')
     p.add_argument('--list', action='store_true')
     o = p.parse_args()
     names = ['definition'] if o.specs else o.crates
@@ -454,6 +456,8 @@ def main():
         folder = os.path.join('crates', crate, 'specs' if o.specs else 'src')
         sites = []
         for name in sorted(os.listdir(os.path.join(ROOT, folder))):
+            if o.files and name.split('.')[0] not in o.files.split(','):
+                continue
             file = os.path.join(folder, name)
             texts[file] = open(os.path.join(ROOT, file), encoding='utf-8').read()
             sites += sorted(set((definition_sites if o.specs else program_sites)(file, texts[file])), key=lambda s: s[:6])

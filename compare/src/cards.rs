@@ -1,5 +1,5 @@
 //! A corpus of cards, whole and damaged, and the answer expected of each. Samples are the Rust's; statuses are those of the
-//! reader below, written from document 01 alone.
+//! reader below, written from the scope alone.
 
 use std::path::Path;
 
@@ -254,7 +254,7 @@ impl Lines {
     }
 }
 
-/// Document 01's own card.
+/// The card of docs/SCOPE.md.
 fn first() -> Card {
     let mut filter = [0; 16];
     filter[0] = 64;

@@ -1,4 +1,4 @@
-//! Every width and height of document 01 with every set of edge bits, for each operation, each pair and kind, and each
+//! Every width and height with every set of edge bits, for each operation, each pair and kind, and each
 //! shape of masks; the other choices go round. And the class index at every block.
 
 use gihvendu::get_class_lut_idx_8bpc;

@@ -1,4 +1,4 @@
-//! A second reading of document 01's table of refusals: every row that the padding rules name is looked up in its list,
+//! A second reading of the table of refusals: every row that the padding rules name is looked up in its list,
 //! over integers that do not wrap.
 
 use gihvendu::raw::{self, Given};

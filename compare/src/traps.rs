@@ -1,4 +1,4 @@
-//! The units of the Rattle program `traps`: document 01's limits of w and h, and a unit for each of its traps, restored by the
+//! The units of the Rattle program `traps`: the limits of w and h, and a unit for each trap of docs/SCOPE.md, restored by the
 //! Rust. Each trap's unit is such that the wrong reading gives other bytes: the Rust, lent what a wrong program would read,
 //! shows that.
 
@@ -101,7 +101,7 @@ fn differ(u: &Unit, title: &str, right: &[u8], wrong: &[u8]) {
     );
 }
 
-/// Document 01's card, and the samples that a program would give that reads the rows above as it has restored them.
+/// The card of docs/SCOPE.md, and the samples that a program would give that reads the rows above as it has restored them.
 fn row_above(out: &mut String) {
     let mut u = unit(Operation::Luma, 4, 4);
     u.stride = 4;
@@ -217,7 +217,7 @@ fn last_luma_column(out: &mut String, title: &str, ss_ver: usize, kind: usize) {
     differ(&u, title, &right, &widened(&u, 2 * u.w - 1));
 }
 
-/// Document 01's limits of w and h.
+/// The limits of w and h.
 fn limits(out: &mut String, operations: &[(Operation, &str)]) {
     for (w, h, status) in [
         (4, 4, 0),

@@ -1,4 +1,4 @@
-//! Restores the 4 by 4 luma unit of document 01's card, and prints what the card's answer holds.
+//! Restores the 4 by 4 luma unit of the card in docs/SCOPE.md, and prints what the card's answer holds.
 
 use gihvendu::{Borders, Unit, ns_wiener_single_y_8bpc};
 

@@ -1,7 +1,7 @@
 use std::error::Error;
 use std::fmt::{self, Display, Formatter};
 
-/// Why a call is declined: the numbers of document 01's table, the lowest that applies. A declined call writes no byte.
+/// Why a call is declined: the numbers of the table in docs/SCOPE.md, 'Refusals', the lowest that applies. A declined call writes no byte.
 ///
 /// Number 14 belongs to the card and cannot come from here.
 #[repr(u8)]
@@ -54,7 +54,7 @@ impl Refusal {
         Refusal::State,
     ];
 
-    /// The number in document 01's table.
+    /// The number in the table.
     pub fn number(self) -> u8 {
         self as u8
     }

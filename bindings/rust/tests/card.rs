@@ -1,4 +1,4 @@
-//! Document 01's card, whole and in every list of advances.
+//! The card of docs/SCOPE.md, whole and in every list of advances.
 
 use gihvendu::{Borders, State, Unit, ns_wiener_single_y_8bpc};
 

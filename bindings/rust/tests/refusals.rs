@@ -1,4 +1,4 @@
-//! Each number of document 01's table: the least that is accepted, and what is declined beside it. Every call is made as a
+//! Each number of the table of refusals: the least that is accepted, and what is declined beside it. Every call is made as a
 //! whole unit, as an opening and as an advance; a declined one must leave the plane and the state as they were.
 
 use gihvendu::{
