@@ -15,8 +15,9 @@
 //! status 1 where anything does. The Rust indexes `left` without the left bit and, in kind 0, one luma column too many: it
 //! is lent those.
 //!
-//!     compare vectors SEED COUNT    prints an antt file with COUNT random units of each of the four operations and what
-//!                                   the Rust makes of them, to be checked against the definition by computation
+//!     compare vectors SEED COUNT    prints an antt file with COUNT rounds of random units and what the Rust makes of them, to
+//!                                   be checked against the definition by computation. A round has a unit of each of the
+//!                                   four operations; where there are at most 3, a chroma unit of each pair and kind
 //!     compare cards SEED FOLDER     writes a corpus of cards, their lengths and the answers expected (cards, lengths, stdout)
 //!     compare replay                prints what the Rust makes of the units of the Rattle program replay
 //!     compare traps                 prints what the Rust makes of the units of the Rattle program traps

@@ -3,17 +3,15 @@
 use std::fmt::Write;
 
 use crate::random::Random;
-use crate::units::{OPERATIONS, Operation, Unit};
+use crate::units::{OPERATIONS, Operation, Spacing, Unit};
 
 const HEAD: &str = "\
--- What the reference makes of random units, beside what the definition says: every sample of each unit's rectangle.
--- One proof that antt computes.
 use mathlib.Core.Bool.{Bool, true, false, _&&_}
 use mathlib.Core.List.{List, [], _∷_}
 use mathlib.Core.Path.{_≡_, refl}
 use Prim.Native.Nat.{ℕ, zero, suc, _+_, _*_, _/_, _%_}
 use lib.Dec.{eqb}
-use lib.IntN.{ℤ, pos, negsuc}
+use lib.IntN.{pos, negsuc}
 use Rattle.definition.specs.declared.Operation.{Operation}
 use Rattle.definition.specs.declared.Operation.the-variants.{Luma, User, Pretrained, Chroma}
 use Rattle.definition.specs.declared.Given.{Given}
@@ -50,10 +48,6 @@ final op g l plane = tab (g .w * g .h) (λ i. finalSample g l plane op (i / g .w
 
 holds : Vector → Bool
 holds v = same (final (v .op) (v .given) (v .lent) (v .plane)) (v .expected)
-
-hold : List Vector → Bool
-hold [] = true
-hold (v ∷ vs) = holds v && hold vs
 ";
 
 /// The definition's own names that the computation goes through.
@@ -134,8 +128,15 @@ fn write_unit(out: &mut String, k: usize, u: &Unit, expected: &[u8]) {
     let _ = writeln!(out, "}}");
 }
 
-/// Up to so many units of each operation stand under one proof; antt stops a proof at 50 million steps.
+/// Up to so many rounds are planned, so that they have a bit of everything; more are drawn.
 const FEW: usize = 3;
+
+/// Horizontal and vertical subsampling, and the kind.
+type Sampling = (usize, usize, usize);
+
+/// Of the chroma units of a planned round: each pair, and each kind under the one pair where kinds differ. The other two
+/// have a kind that would mix rows there.
+const SAMPLINGS: [Sampling; 5] = [(0, 0, 0), (1, 0, 1), (1, 1, 0), (1, 1, 1), (1, 1, 2)];
 
 /// The edge bits of a few units: saved rows above and below, integrated ones, then a mix.
 fn varied_edges(r: &mut Random, round: usize) -> u8 {
@@ -148,44 +149,91 @@ fn varied_edges(r: &mut Random, round: usize) -> u8 {
         }
 }
 
-/// An antt file with `count` units of each operation, under one proof where there are few and else under one for each.
-pub(crate) fn file(seed: u64, count: usize) -> String {
-    let mut out = String::from(HEAD);
-    let mut r = Random::new(seed);
-    let mut names = Vec::new();
-    for round in 0..count {
-        for op in OPERATIONS {
-            let k = names.len();
-            let unit = if count <= FEW {
-                let edges = varied_edges(&mut r, round);
-                let (w, h) = (4 + 4 * r.below(2), 4 + 4 * r.below(2));
-                Unit::sized(&mut r, op, edges, w, h)
-            } else {
-                let edges = r.below(64) as u8;
-                Unit::random(&mut r, op, edges)
-            };
-            let expected = unit.rectangle(&unit.restored());
-            write_unit(&mut out, k, &unit, &expected);
-            names.push(format!("unit{k}"));
+fn planned(r: &mut Random, op: Operation, round: usize, subsampling: Option<Sampling>) -> Unit {
+    let edges = varied_edges(r, round);
+    let (w, h) = (4 + 4 * r.below(2), 4 + 4 * r.below(2));
+    let spacing = Spacing {
+        room: 4,
+        first: 1,
+        subsampling,
+        ..Spacing::default()
+    };
+    Unit::spaced(r, op, edges, w, h, spacing)
+}
+
+/// The unit under another pair and kind. They may want luma rows that are not lent: those are zeros, as the definition has
+/// them.
+fn resampled(u: &Unit, (ss_hor, ss_ver, kind): Sampling) -> Unit {
+    let room = 32 * (u.luma_stride + 1);
+    let widened = |bytes: &[u8]| [&vec![0; room], bytes, &vec![0; room]].concat();
+    Unit {
+        luma_off: u.luma_off + room,
+        luma_top_off: u.luma_top_off + room,
+        luma_bottom_off: u.luma_bottom_off + room,
+        luma_plane: widened(&u.luma_plane),
+        luma_top: widened(&u.luma_top),
+        luma_bottom: widened(&u.luma_bottom),
+        ss_hor,
+        ss_ver,
+        kind,
+        ..u.clone()
+    }
+}
+
+/// Whether every other pair and kind changes a sample. A unit whose blocks are masked, or whose filter is weak, says nothing
+/// of its luma rows.
+fn tells(u: &Unit, sampling: Sampling) -> bool {
+    let restored = |u: &Unit| u.rectangle(&u.restored());
+    let others = SAMPLINGS.into_iter().filter(|&other| other != sampling);
+    let expected = restored(u);
+    others
+        .map(|other| restored(&resampled(u, other)))
+        .all(|samples| samples != expected)
+}
+
+fn chroma(r: &mut Random, round: usize, sampling: Sampling) -> Unit {
+    loop {
+        let unit = planned(r, Operation::Chroma, round, Some(sampling));
+        if tells(&unit, sampling) {
+            return unit;
         }
     }
-    let proofs: Vec<&[String]> = if count <= FEW {
-        vec![&names]
-    } else {
-        names.chunks(1).collect()
-    };
-    for names in proofs {
-        let name = if count <= FEW {
-            String::from("vectors")
-        } else {
-            format!("{}-holds", names[0])
-        };
-        let (all, unfolded) = (names.join(" ∷ "), names.join(" "));
+}
+
+/// So many rounds of units: one of each operation, but in planned rounds a chroma unit of each pair and kind.
+fn units(seed: u64, count: usize) -> Vec<Unit> {
+    let r = &mut Random::new(seed);
+    let mut units = Vec::new();
+    for round in 0..count {
+        for op in OPERATIONS {
+            match op {
+                _ if count > FEW => {
+                    let edges = r.below(64) as u8;
+                    units.push(Unit::random(r, op, edges));
+                }
+                Operation::Chroma => units.extend(SAMPLINGS.map(|s| chroma(r, round, s))),
+                _ => units.push(planned(r, op, round, None)),
+            }
+        }
+    }
+    units
+}
+
+/// An antt file with `count` rounds of units. Each unit has a proof of its own: antt stops one at 50 million steps.
+pub(crate) fn file(seed: u64, count: usize) -> String {
+    let mut out = format!(
+        "-- What the reference makes of random units, beside what the definition says: every sample of each unit's rectangle.\n\
+         -- Proofs that antt computes. Made by `compare vectors {seed} {count}`.\n\
+         {HEAD}"
+    );
+    for (k, unit) in units(seed, count).iter().enumerate() {
+        let expected = unit.rectangle(&unit.restored());
+        write_unit(&mut out, k, unit, &expected);
         let _ = write!(
             out,
-            "\n{name} : hold ({all} ∷ []) ≡ true\n\
-             unfolding hold holds final same mapFrom classMap {unfolded} {UNFOLDED}\n\
-             {name} = refl\n"
+            "\nunit{k}-holds : holds unit{k} ≡ true\n\
+             unfolding holds final same mapFrom classMap unit{k} {UNFOLDED}\n\
+             unit{k}-holds = refl\n"
         );
     }
     out

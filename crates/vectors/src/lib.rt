@@ -1,1 +1,1 @@
-// Twelve units that the Rust restored, against the definition: in specs/, and there is no code. `compare vectors` makes the file.
+// Units that the Rust restored, against the definition: in specs/, and there is no code. `compare vectors 1 3` makes the file.
