@@ -1,4 +1,4 @@
--- Luma that is gathered at chroma's resolution.
+-- What the private functions ask and leave of luma that is gathered at chroma's resolution.
 use Prim.Native.Nat.{ℕ, _+_, _*_, _^_, _≤_, _<_}
 use mathlib.Core.List.{List}
 use mathlib.Core.Path.{_≡_}

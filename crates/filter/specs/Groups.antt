@@ -1,4 +1,4 @@
--- Taps of a small filter, summed in groups of at most three by themselves: what one group holds in 16 bits.
+-- What the private functions ask and leave of a small filter's taps, summed in groups of at most three by themselves: what one group holds in 16 bits.
 use Prim.Native.Nat.{ℕ, _+_, _*_, _≤_, _<_}
 use mathlib.Core.List.{List}
 use lib.IntN.{ℤ, pos, natAbs, _*ℤ_}

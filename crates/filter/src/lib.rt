@@ -1,5 +1,5 @@
 // filter.rs: the three filter runs. Each writes the restored samples of one stretch into the part of the plane that it is lent.
-// RowsReached are one flat array of padded rows, reached by ten row indices. Samples are worked out eight at a time in a local, which no store to the
+// Rows are one flat array of padded rows, reached by ten row indices. Samples are worked out eight at a time in a local, which no store to the
 // destination can be taken to change. Their filter is read anew for each eight: the compiler then sees that its numbers are short. Only small filters are
 // read from a copy (narrow.rt).
 ghost use mathlib.Core.Path.{_≡_};

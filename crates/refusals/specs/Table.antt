@@ -1,4 +1,4 @@
--- The table of refusals in two parts: the first four conditions bound the sizes and strides, so that the rest can be worked out in 64 bits.
+-- What the private functions ask and leave: the table of refusals in two parts. The first four conditions bound the sizes and strides, so that the rest can be worked out in 64 bits.
 use mathlib.Core.Path.{_≡_}
 use mathlib.Core.Bool.{true, not}
 use mathlib.Core.List.{List, [], _∷_}

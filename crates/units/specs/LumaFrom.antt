@@ -1,4 +1,4 @@
--- A luma row of a chroma unit from the slice that it lies in: where it may start, and its bytes.
+-- What the private functions ask and leave of a luma row of a chroma unit, from the slice that it lies in: where it may start, and its bytes.
 use mathlib.Core.Path.{_≡_}
 use mathlib.Core.Bool.{cond, _&&_}
 use mathlib.Core.List.{List}
