@@ -1,6 +1,7 @@
 //! Units and what the Rust makes of them, as an antt file that compares them with the definition by computation.
 
 use std::fmt::Write;
+use std::ops::Range;
 
 use crate::random::Random;
 use crate::units::{OPERATIONS, Operation, Spacing, Unit};
@@ -134,31 +135,29 @@ const FEW: usize = 3;
 /// Horizontal and vertical subsampling, and the kind.
 type Sampling = (usize, usize, usize);
 
-/// Of the chroma units of a planned round: each pair, and each kind under the one pair where kinds differ. The other two
-/// have a kind that would mix rows there.
-const SAMPLINGS: [Sampling; 5] = [(0, 0, 0), (1, 0, 1), (1, 1, 0), (1, 1, 1), (1, 1, 2)];
+/// The units of a planned round. Chroma has each pair, and each kind under the one pair where kinds differ; under the others a
+/// kind that would mix rows.
+const PLAN: [(Operation, Sampling); 8] = [
+    (Operation::Luma, (0, 0, 0)),
+    (Operation::User, (0, 0, 0)),
+    (Operation::Pretrained, (0, 0, 0)),
+    (Operation::Chroma, (0, 0, 0)),
+    (Operation::Chroma, (1, 0, 1)),
+    (Operation::Chroma, (1, 1, 0)),
+    (Operation::Chroma, (1, 1, 1)),
+    (Operation::Chroma, (1, 1, 2)),
+];
 
-/// The edge bits of a few units: saved rows above and below, integrated ones, then a mix.
-fn varied_edges(r: &mut Random, round: usize) -> u8 {
-    let beside = r.below(4) as u8;
+/// The edge bits at a place of a planned round: saved rows above and below, integrated ones, then a mix. Left and right differ
+/// from round to round.
+fn varied_edges(r: &mut Random, round: usize, place: usize) -> u8 {
+    let beside = (place as u8 % 4) ^ [0, 3, 1][round];
     beside
         | match round {
             0 => 12,
             1 => 48 | (r.below(4) as u8) << 2,
-            _ => [0, 4, 8, 24, 36][r.below(5)],
+            _ => [0, 36, 24, 24, 36, 0, 4, 8][place],
         }
-}
-
-fn planned(r: &mut Random, op: Operation, round: usize, subsampling: Option<Sampling>) -> Unit {
-    let edges = varied_edges(r, round);
-    let (w, h) = (4 + 4 * r.below(2), 4 + 4 * r.below(2));
-    let spacing = Spacing {
-        room: 4,
-        first: 1,
-        subsampling,
-        ..Spacing::default()
-    };
-    Unit::spaced(r, op, edges, w, h, spacing)
 }
 
 /// The unit under another pair and kind. They may want luma rows that are not lent: those are zeros, as the definition has
@@ -180,40 +179,79 @@ fn resampled(u: &Unit, (ss_hor, ss_ver, kind): Sampling) -> Unit {
     }
 }
 
-/// Whether every other pair and kind changes a sample. A unit whose blocks are masked, or whose filter is weak, says nothing
-/// of its luma rows.
-fn tells(u: &Unit, sampling: Sampling) -> bool {
-    let restored = |u: &Unit| u.rectangle(&u.restored());
-    let others = SAMPLINGS.into_iter().filter(|&other| other != sampling);
-    let expected = restored(u);
-    others
-        .map(|other| restored(&resampled(u, other)))
-        .all(|samples| samples != expected)
+/// The unit with other bytes in one of the places that its border is taken from, for each of them: a list, or rows of a plane
+/// outside the unit.
+fn other_borders(u: &Unit) -> Vec<Unit> {
+    type Bytes = fn(&mut Unit) -> &mut Vec<u8>;
+    let (plane, luma) = (u.plane.len(), u.luma_plane.len());
+    let (luma_start, luma_end) = (u.luma_off, u.luma_off + (u.h << u.ss_ver) * u.luma_stride);
+    let above = |start: usize, len: usize| 0..if u.edges & 16 != 0 { start.min(len) } else { 0 };
+    let below = |end: usize, len: usize| if u.edges & 32 != 0 { end.min(len) } else { len }..len;
+    let places: [(Bytes, Range<usize>); 8] = [
+        (|u| &mut u.left, 0..u.left.len()),
+        (|u| &mut u.top, 0..u.top.len()),
+        (|u| &mut u.bottom, 0..u.bottom.len()),
+        (|u| &mut u.plane, below(u.off + u.h * u.stride, plane)),
+        (|u| &mut u.luma_top, 0..u.luma_top.len()),
+        (|u| &mut u.luma_bottom, 0..u.luma_bottom.len()),
+        (|u| &mut u.luma_plane, above(luma_start, luma)),
+        (|u| &mut u.luma_plane, below(luma_end, luma)),
+    ];
+    let changed = |(bytes, range): (Bytes, Range<usize>)| {
+        let mut other = u.clone();
+        bytes(&mut other)[range].iter_mut().for_each(|b| *b = !*b);
+        other
+    };
+    let used = places.into_iter().filter(|(_, range)| !range.is_empty());
+    used.map(changed).collect()
 }
 
-fn chroma(r: &mut Random, round: usize, sampling: Sampling) -> Unit {
+/// Whether the unit's samples say something of all that they are made of: the Rust changes one, and it gives others with each
+/// other border and under each other pair and kind of the plan. Else blocks may be masked, or the filter is weak.
+fn tells(u: &Unit) -> bool {
+    let restored = |u: &Unit| u.rectangle(&u.restored());
+    let (own, expected) = ((u.ss_hor, u.ss_ver, u.kind), restored(u));
+    let samplings = PLAN
+        .into_iter()
+        .filter(|&(op, other)| op == u.op && other != own)
+        .map(|(_, other)| resampled(u, other));
+    let mut others = other_borders(u).into_iter().chain(samplings);
+    expected != u.rectangle(&u.plane) && others.all(|other| restored(&other) != expected)
+}
+
+/// The unit at a place of a planned round. It is not square, so that w and h are told apart. Blocks are masked in half of the
+/// mix only: else the whole border counts.
+fn planned(r: &mut Random, round: usize, place: usize) -> Unit {
+    let (op, sampling) = PLAN[place];
+    let spacing = Spacing {
+        room: 4,
+        first: 1,
+        subsampling: Some(sampling),
+        ..Spacing::default()
+    };
     loop {
-        let unit = planned(r, Operation::Chroma, round, Some(sampling));
-        if tells(&unit, sampling) {
+        let edges = varied_edges(r, round, place);
+        let (w, h) = [(4, 8), (8, 4)][r.below(2)];
+        let unit = Unit::spaced(r, op, edges, w, h, spacing);
+        let masked = unit.pieces(0..h) < w / 4 * h;
+        if masked == (round == 2 && place % 2 == 1) && tells(&unit) {
             return unit;
         }
     }
 }
 
-/// So many rounds of units: one of each operation, but in planned rounds a chroma unit of each pair and kind.
+/// So many rounds of units.
 fn units(seed: u64, count: usize) -> Vec<Unit> {
     let r = &mut Random::new(seed);
     let mut units = Vec::new();
     for round in 0..count {
-        for op in OPERATIONS {
-            match op {
-                _ if count > FEW => {
-                    let edges = r.below(64) as u8;
-                    units.push(Unit::random(r, op, edges));
-                }
-                Operation::Chroma => units.extend(SAMPLINGS.map(|s| chroma(r, round, s))),
-                _ => units.push(planned(r, op, round, None)),
-            }
+        if count <= FEW {
+            units.extend((0..PLAN.len()).map(|place| planned(r, round, place)));
+        } else {
+            units.extend(OPERATIONS.map(|op| {
+                let edges = r.below(64) as u8;
+                Unit::random(r, op, edges)
+            }));
         }
     }
     units
