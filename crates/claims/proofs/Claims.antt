@@ -1,16 +1,16 @@
 -- The terms of the three demands.
 use mathlib.Core.Path.{_≡_, refl, sym, _∙_}
-use mathlib.Core.Bool.{Bool, true, false, _&&_, _||_}
+use mathlib.Core.Bool.{Bool, true, false, cond, _&&_, _||_}
 use mathlib.Core.List.{List, [], _∷_}
 use mathlib.Core.Logic.{_≢_}
 use Prim.Native.Nat.{ℕ, zero, suc, _+_, _-_, _*_, _/_, _≤_, _<_, min, zero-le}
 use native.Mathlib.Nat.{add-zero}
-use native.Mathlib.Decide.{decLt, ℕ-discrete}
+use native.Mathlib.Decide.{ℕ-discrete}
 use native.Mathlib.Omega.{arith}
 use mir.Facts.{and-yes}
 use lib.Dec.{T, eqb, leb, leb→le}
 use lib.ListN.{length, getD}
-use lib.Seq.{sets, length-sets}
+use lib.Seq.{length-sets}
 use borrow.Author.Tests.{ne-eqb}
 use Rattle.definition.specs.declared.Operation.{Operation}
 use Rattle.definition.specs.declared.Given.{Given}
@@ -20,14 +20,14 @@ use Rattle.definition.specs.Units.{Lent, finalSample}
 use Rattle.definition.specs.Calls.{Call}
 use Rattle.definition.specs.Refusals.{Check, _⇒_, lowest, sizesOf, unitChecks, unitStatus, openStatus}
 use Rattle.laws.proofs.Ints.{never}
-use Rattle.laws.proofs.Lists.{length-tab, sets-before, sets-behind}
+use Rattle.laws.proofs.Lists.{length-tab, sets-other}
 use Rattle.history.specs.History.{Out, World}
 use Rattle.history.specs.Advance.{steps, pickOut, advanced, todo}
 use Rattle.units.specs.declared.State.{State}
 use Rattle.units.specs.declared.Advanced.{Advanced}
 use Rattle.units.specs.Openings.{noState, stateUnless}
 use Rattle.units.specs.Step.{startOf, sampleOf, stateOf, planeOf, stepOf}
-use Rattle.units.specs.Advances.{statusOf, units, answer, Answered}
+use Rattle.units.specs.Advances.{badState, statusBy, statusOf, units, answer, Answered}
 use Rattle.units.proofs.AllHistories.{histories}
 use Rattle.claims.specs.Claims.{Works, Demand1, Demand2, Demand3}
 
@@ -59,6 +59,14 @@ table-most : (op : Operation) (n : Given) (l : Lent) (p : List ℕ) → openStat
 unfolding unitStatus upTo
 table-most op n l p = lowest-most 11 (unitChecks op n (sizesOf op l p)) tt
 
+state-most : (c : Call) (s : State) (p : List ℕ) → statusOf c s p ≢ 13 → statusOf c s p ≤ 11
+unfolding statusBy
+state-most c s p h = go (badState (c .op) s _) _ (table-most (c .op) (s .given) (c .lent) p) h
+  where
+    go : (bad : Bool) (k : ℕ) → k ≤ 11 → cond bad 13 k ≢ 13 → cond bad 13 k ≤ 11
+    go true k e h = absurd (h refl)
+    go false k e h = e
+
 -- NOT REFUSED: n steps of rows, of any state
 record Walked (n : ℕ) (s : State) (p : List ℕ) (x : World State) : Type 0 where
   done : x .state .done ≡ s .done + n
@@ -66,18 +74,6 @@ record Walked (n : ℕ) (s : State) (p : List ℕ) (x : World State) : Type 0 wh
   given : x .state .given ≡ s .given
   size : length (x .plane) ≡ length p
   other : (i : ℕ) → ((y c : ℕ) → s .done ≤ y → y < s .done + n → c < s .given .w → i ≢ s .given .off + y * s .given .stride + c) → getD (x .plane) i 0 ≡ getD p i 0
-
--- a list that is put into another changes only the places that it takes
-sets-other : (p vs : List ℕ) (start w i : ℕ) → length vs ≡ w → ((c : ℕ) → c < w → i ≢ start + c) → getD (sets p start vs) i 0 ≡ getD p i 0
-sets-other p vs start w i e h =
-    elim (decLt i start) [
-      | yes lt ↦ sets-before vs p start i lt
-      | no ge ↦
-          elim (decLt i (start + w)) [
-            | yes lt′ ↦ absurd (h (i - start) (omega arith) (omega arith))
-            | no ge′ ↦ sets-behind vs p start i (omega arith)
-          ]
-    ]
 
 module _ (op : Operation) (l : Lent) (s : State) (p : List ℕ) where
   row-other : (i : ℕ) → ((c : ℕ) → c < s .given .w → i ≢ startOf op l s p + c) → getD (planeOf op l s p) i 0 ≡ getD p i 0
@@ -152,6 +148,7 @@ demand-1 =
       idles = λ c s p q r a z e. let b : Answered r q _ = rw (idle c s p z e) at a in (b .status, b .pieces, b .state, b .plane);
       whole = λ op r n l p q w. (w .status, w .none);
       numbers = table-most;
+      stateNumbers = state-most;
     }
 
 masks : (op : Operation) (n : Given) (l : Lent) (p : List ℕ) (y x : ℕ) → masked (maskAt (l .skip) y) (x / side) ≡ true →

@@ -51,8 +51,9 @@ pub record Demand1 : Type 0 where
   -- the whole unit
   pub whole : (op : Operation) (r : Restored) (n : Given) (l : Lent) (p q : List ℕ) → Whole op r n l p q →
       (r .status ≡ openStatus op n l p) × (openStatus op n l p ≢ 0 → (r .pieces ≡ 0) × (q ≡ p))
-  -- no number but the table's
+  -- no number but the table's: 1 to 11, and in an advance 13
   pub numbers : (op : Operation) (n : Given) (l : Lent) (p : List ℕ) → openStatus op n l p ≤ 11
+  pub stateNumbers : (c : Call) (s : State) (p : List ℕ) → statusOf c s p ≢ 13 → statusOf c s p ≤ 11
 
 -- DEMAND 2: each sample of the rectangle is the definition's over the plane as it was, every byte outside it stays, and so do masked blocks
 pub record Demand2 : Type 0 where

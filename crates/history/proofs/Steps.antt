@@ -1,7 +1,7 @@
 -- An advance is so many steps of one row: what one step shows, any number shows.
 use mathlib.Core.Path.{_≡_, refl, sym, _∙_}
 use mathlib.Core.List.{List}
-use Prim.Native.Nat.{ℕ, zero, suc, _+_, _*_, _-_, _≤_, _<_}
+use Prim.Native.Nat.{ℕ, zero, suc, _+_, _*_, _≤_, _<_}
 use native.Mathlib.Nat.{add-zero}
 use native.Mathlib.Decide.{decLt}
 use native.Mathlib.Omega.{arith}
@@ -9,7 +9,7 @@ use lib.ListN.{length}
 use lib.Seq.{sets, length-sets}
 use Rattle.history.proofs.Ring.{rows-apart}
 use Rattle.definition.specs.Rows.{tab}
-use Rattle.laws.proofs.Lists.{length-tab, getD-tab, sets-in, sets-before, sets-behind}
+use Rattle.laws.proofs.Lists.{length-tab, getD-tab, sets-in, sets-other}
 use Rattle.history.specs.History.{Opened, World}
 use Rattle.history.specs.Advance.{steps}
 use Rattle.history.proofs.Lawful.{RowsFinal, Like}
@@ -40,17 +40,7 @@ paint u a off stride at k p f room same =
       here = λ y x lo hi hx.
           let e : y ≡ k = omega arith in
           rw (e, at) (sets-in vs p (off + k * stride) x (omega arith) (omega arith) ∙ getD-tab (u .w) f x hx ∙ same x hx);
-      other = λ i o.
-          elim (decLt i (off + k * stride)) [
-            | yes lt ↦ sets-before vs p (off + k * stride) i lt
-            | no ge ↦
-                elim (decLt i (off + k * stride + u .w)) [
-                  | yes lt′ ↦
-                      let e : i ≡ off + k * stride + (i - (off + k * stride)) = omega arith in
-                      absurd (o k (i - (off + k * stride)) (omega arith) (omega arith) (omega arith) (e ∙ sym (at k (i - (off + k * stride)))))
-                  | no ge′ ↦ sets-behind vs p (off + k * stride) i (omega arith)
-                ]
-          ];
+      other = λ i o. sets-other p vs (off + k * stride) (u .w) i size (λ c hc e. o k c (omega arith) (omega arith) hc (e ∙ sym (at k c)));
     }
 
 module _ {S C A : Type 0} (u : Opened S C A) (a : A) (Reached : ℕ → S → Type 0) (step : World S → World S) where

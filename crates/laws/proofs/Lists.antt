@@ -1,10 +1,12 @@
 -- Lists: a run of elements put at a place (`sets` of lib.Seq), and a list made by a rule (`tab`).
 use mathlib.Core.Path.{_≡_, refl, sym, _∙_, ap, ap₂}
+use mathlib.Core.Logic.{_≢_}
 use mathlib.Core.List.{List, [], _∷_}
-use Prim.Native.Nat.{ℕ, zero, suc, _+_, _≤_, _<_, suc-le-suc, zero-le}
+use Prim.Native.Nat.{ℕ, zero, suc, _+_, _-_, _≤_, _<_, suc-le-suc, zero-le}
 use native.Mathlib.Nat.{not-suc-le-zero, le-of-suc-le-suc, add-zero, zero-add}
 use native.Mathlib.Numerals.{add-one}
 use native.Mathlib.Omega.{arith}
+use native.Mathlib.Decide.{decLt}
 use lib.ListN.{length, getD, set}
 use Rattle.definition.specs.Rows.{tab}
 use lib.Seq.{getD-set-same, getD-set-other, set-getD, sets, ext-getD, length-sets, lt-length-set}
@@ -27,6 +29,18 @@ sets-in (v ∷ vs) l a (suc i) h g =
     let e : a + suc i ≡ suc a + i = omega arith in
     let g′ : suc a + i < length l = omega arith in
     rw e (sets-in vs (set l a v) (suc a) i (le-of-suc-le-suc h) (lt-length-set l a v g′))
+
+-- a list that is put into another changes only the places that it takes
+pub sets-other : (p vs : List ℕ) (start w i : ℕ) → length vs ≡ w → ((c : ℕ) → c < w → i ≢ start + c) → getD (sets p start vs) i 0 ≡ getD p i 0
+sets-other p vs start w i e h =
+    elim (decLt i start) [
+      | yes lt ↦ sets-before vs p start i lt
+      | no ge ↦
+          elim (decLt i (start + w)) [
+            | yes lt′ ↦ absurd (h (i - start) (omega arith) (omega arith))
+            | no ge′ ↦ sets-behind vs p start i (omega arith)
+          ]
+    ]
 
 pub tab-cong {ℓ} : {A : Type ℓ} (n : ℕ) (f g : ℕ → A) → ((i : ℕ) → i < n → f i ≡ g i) → tab n f ≡ tab n g
 tab-cong zero f g e = refl
