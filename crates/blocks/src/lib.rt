@@ -4,8 +4,11 @@ ghost use Prim.Native.Nat.{_+_, _-_, _≤_, _<_};
 ghost use Rattle.definition.specs.Blocks.{masked, clearBelow, stretchEnd, stretchStart};
 ghost use Rattle.definition.specs.Leaves.{rowStatus, blockStatus, endFrom};
 ghost use Rattle.definition.specs.Limits.{blockColumnLimit};
+ghost use Rattle.definition.specs.Planes.{skipNumbers};
 ghost use Rattle.definition.specs.Rows.{orZero};
 use definition::BLOCK_COLUMN_LIMIT;
+use definition::MASK_BITS;
+use definition::SIDE;
 
 pub struct Pieces {
     pub status: u8,
@@ -100,4 +103,11 @@ pub fn class_stretch(mask: u16, classes: &[u8; BLOCK_COLUMN_LIMIT], bx: usize, b
         start: bw,
         end: bw,
     }
+}
+
+// The skip numbers to a block row of a plane that is w wide.
+pub fn skip_numbers(w: usize) -> usize
+    ensures { λ r. ⌜ r ≡ skipNumbers w ⌝ }
+{
+    (w / SIDE + (MASK_BITS - 1)) / MASK_BITS
 }

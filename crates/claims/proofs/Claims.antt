@@ -1,5 +1,5 @@
 -- The terms of the three demands.
-use mathlib.Core.Path.{_≡_, refl, sym, _∙_}
+use mathlib.Core.Path.{_≡_, refl, sym, _∙_, ap}
 use mathlib.Core.Bool.{Bool, true, false, cond, _&&_, _||_}
 use mathlib.Core.List.{List, [], _∷_}
 use mathlib.Core.Logic.{_≢_}
@@ -9,6 +9,7 @@ use native.Mathlib.Decide.{ℕ-discrete}
 use native.Mathlib.Omega.{arith}
 use mir.Facts.{and-yes}
 use lib.Dec.{T, eqb, leb, leb→le}
+use lib.IntN.{ℤ}
 use lib.ListN.{length, getD}
 use lib.Seq.{length-sets}
 use borrow.Author.Tests.{ne-eqb}
@@ -17,10 +18,15 @@ use Rattle.definition.specs.declared.Given.{Given}
 use Rattle.definition.specs.Rows.{tab}
 use Rattle.definition.specs.Blocks.{side, maskAt, masked, piecesOf}
 use Rattle.definition.specs.Units.{Lent, finalSample}
+use Rattle.definition.specs.Planes.{unitCount, planeAfter, planeRestored}
 use Rattle.definition.specs.Calls.{Call}
 use Rattle.definition.specs.Refusals.{Check, _⇒_, lowest, sizesOf, unitChecks, unitStatus, openStatus}
 use Rattle.laws.proofs.Ints.{never}
 use Rattle.laws.proofs.Lists.{length-tab, sets-other}
+use Rattle.laws.proofs.Passes.{refused, none-answered}
+use Rattle.plane_laws.proofs.Order.{UnitsDone}
+use Rattle.plane_laws.proofs.Walk.{all-counted}
+use Rattle.plane_laws.proofs.Answers.{PlaneFine, plane-fine, is-after, all-restored}
 use Rattle.history.specs.History.{Out, World}
 use Rattle.history.specs.Advance.{steps, pickOut, advanced, todo}
 use Rattle.units.specs.declared.State.{State}
@@ -29,7 +35,9 @@ use Rattle.units.specs.Openings.{noState, stateUnless}
 use Rattle.units.specs.Step.{startOf, sampleOf, stateOf, planeOf, stepOf}
 use Rattle.units.specs.Advances.{badState, statusBy, statusOf, units, answer, Answered}
 use Rattle.units.proofs.AllHistories.{histories}
-use Rattle.claims.specs.Claims.{Works, Demand1, Demand2, Demand3}
+use Rattle.whole.specs.declared.Restored.{Restored}
+use Rattle.plane.specs.Plane.{PlaneRestored}
+use Rattle.claims.specs.Claims.{Works, WholePlane, Demand1, Demand2, Demand3}
 
 -- REFUSED
 zeros-state : (status : ℕ) (s : State) → status ≢ 0 → stateUnless status s ≡ noState
@@ -156,11 +164,39 @@ masks : (op : Operation) (n : Given) (l : Lent) (p : List ℕ) (y x : ℕ) → m
 unfolding finalSample
 masks op n l p y x m = rw m
 
+-- A WHOLE PLANE
+module _ (r : Restored) (w h u count : ℕ) (filter : List ℤ) (skip s s′ p q : List ℕ) (a : PlaneRestored r w h u count filter skip s s′ p q) where
+  plane-refused : r .status ≢ 0 → (r .pieces ≡ 0) × (q ≡ p) × (s′ ≡ s)
+  plane-refused z = (a .pieces ∙ sym (none-answered (r .status) _ z), a .plane ∙ sym (refused (r .status) p _ z), a .kept z)
+
+  is-fine : r .status ≡ 0 → PlaneFine w h u (length p) (length skip) (length filter) (length s)
+  is-fine z = plane-fine w h u (length p) (length skip) (length filter) (length s) (sym (a .status) ∙ z)
+
+  is-planeAfter : r .status ≡ 0 → q ≡ planeAfter w h u count p skip filter
+  is-planeAfter z = rw z at (a .plane)
+
+  units-done : r .status ≡ 0 → UnitsDone w h u count p skip filter q
+  units-done z = let f = is-fine z in rw (is-planeAfter z) (is-after w h p skip filter (f .grid .someW) (f .room) u count)
+
+  plane-behind : (i : ℕ) → h * w ≤ i → getD q i 0 ≡ getD p i 0
+  plane-behind i l =
+      elim (ℕ-discrete (r .status) 0) [
+        | yes z ↦ units-done z .behind i l
+        | no z ↦ ap (λ (t : List ℕ). getD t i 0) (plane-refused z .1)
+      ]
+
+  plane-all : r .status ≡ 0 → unitCount w h u ≤ count → q ≡ planeRestored w h p skip filter
+  plane-all z l = let f = is-fine z in is-planeAfter z ∙ all-restored w h p skip filter (f .grid .someW) (f .room) u count (all-counted w h u count (f .grid .someU) l)
+
+  whole-plane : WholePlane r w h u count filter skip s s′ p q
+  whole-plane = record { refused = plane-refused; here = λ z. units-done z .here; behind = plane-behind; everySize = plane-all }
+
 pub demand-2 : Demand2
 demand-2 =
     record {
       restores = λ op r n l p q w z. (w .status ∙ z, w .pieces z, w .plane z);
       masks = masks;
+      planes = whole-plane;
     }
 
 pub demand-3 : Demand3

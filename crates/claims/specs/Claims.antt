@@ -2,19 +2,22 @@
 --   open_y, open_n, open_p, open_c              promise `Begun`
 --   advance_y, advance_n, advance_p, advance_c  promise `Answered` by `answer`
 --   the four whole-unit operations              promise `Whole`
+--   restore_plane                               promises `PlaneRestored`
 -- The functions of gihvendu promise what the functions promise that they call. That they take all lengths, offsets, flags and contents: none has a `requires`. That they
 -- end: the checker refuses a loop or a recursion without a measure. The terms are demand-1, demand-2 and demand-3 in proofs/Claims.antt.
 use mathlib.Core.Path.{_≡_}
-use mathlib.Core.Bool.{true, _||_}
+use mathlib.Core.Bool.{true, cond, _||_}
 use mathlib.Core.List.{List}
 use mathlib.Core.Logic.{_≢_}
 use Prim.Native.Nat.{ℕ, _+_, _-_, _*_, _/_, _≤_, _<_, min}
-use lib.Dec.{eqb}
+use lib.Dec.{ltb, eqb}
+use lib.IntN.{ℤ}
 use lib.ListN.{length, getD}
 use Rattle.definition.specs.declared.Operation.{Operation}
 use Rattle.definition.specs.declared.Given.{Given}
 use Rattle.definition.specs.Blocks.{side, maskAt, masked, piecesOf}
 use Rattle.definition.specs.Units.{Lent, finalSample}
+use Rattle.definition.specs.Planes.{sampleIn, finalIn, unitCount, unitNumber, planeRestored}
 use Rattle.definition.specs.Calls.{Call}
 use Rattle.definition.specs.Refusals.{openStatus}
 use Rattle.units.specs.declared.State.{State}
@@ -25,6 +28,7 @@ use Rattle.units.specs.Advances.{statusOf, answer, Answered}
 use Rattle.units.specs.Histories.{Histories}
 use Rattle.whole.specs.declared.Restored.{Restored}
 use Rattle.whole.specs.Whole.{Final, Whole}
+use Rattle.plane.specs.Plane.{PlaneRestored}
 
 -- an advance of any state, forged ones too, that does n rows: only samples of these rows may change, and of the state neither operation nor sizes
 pub record Works (n : ℕ) (c : Call) (s : State) (p q : List ℕ) (r : Advanced) : Type 0 where
@@ -34,6 +38,15 @@ pub record Works (n : ℕ) (c : Call) (s : State) (p q : List ℕ) (r : Advanced
   pub same : (r .state .op ≡ s .op) × (r .state .given ≡ s .given)
   pub size : length q ≡ length p
   pub other : (i : ℕ) → ((y x : ℕ) → s .done ≤ y → y < s .done + n → x < s .given .w → i ≢ s .given .off + y * s .given .stride + x) → getD q i 0 ≡ getD p i 0
+
+-- a whole plane: a refused call changes nothing; else the samples of its first units are the definition's over the plane as it was, and no other byte changes
+pub record WholePlane (r : Restored) (w h u count : ℕ) (filter : List ℤ) (skip s s′ p q : List ℕ) : Type 0 where
+  pub refused : r .status ≢ 0 → (r .pieces ≡ 0) × (q ≡ p) × (s′ ≡ s)
+  pub here : r .status ≡ 0 → (y x : ℕ) → y < h → x < w →
+      sampleIn w q y x ≡ cond (ltb (unitNumber w u y x) count) (finalIn w h p skip filter y x) (sampleIn w p y x)
+  pub behind : (i : ℕ) → h * w ≤ i → getD q i 0 ≡ getD p i 0
+  -- with all units done the bytes do not depend on the unit size: no unit is spoken of
+  pub everySize : r .status ≡ 0 → unitCount w h u ≤ count → q ≡ planeRestored w h p skip filter
 
 -- DEMAND 1: every call works or gives the number of the table; a refusal writes no byte and hands a state back as it came
 pub record Demand1 : Type 0 where
@@ -61,6 +74,8 @@ pub record Demand2 : Type 0 where
       (r .status ≡ 0) × (r .pieces ≡ piecesOf (l .skip) (n .w / side) 0 (n .h)) × Final op n l p q
   pub masks : (op : Operation) (n : Given) (l : Lent) (p : List ℕ) (y x : ℕ) → masked (maskAt (l .skip) y) (x / side) ≡ true →
       finalSample n l p op y x ≡ getD p (n .off + y * n .stride + x) 0
+  pub planes : (r : Restored) (w h u count : ℕ) (filter : List ℤ) (skip s s′ p q : List ℕ) → PlaneRestored r w h u count filter skip s s′ p q →
+      WholePlane r w h u count filter skip s s′ p q
 
 -- DEMAND 3: a unit that was opened, and any history of it. After the history finished rows hold their final samples or what was written over them, and all else is as at the opening.
 abbrev pub Demand3 : Type 0

@@ -10,7 +10,6 @@ use Rattle.definition.specs.Limits.{blockRowLimit}
 use Rattle.definition.specs.ClassIndex.{lastColumn}
 use Rattle.definition.specs.Refusals.{rowsSize, indicesUpTo, classStatus}
 use Rattle.definition.specs.Leaves.{badPlace, placeStatus}
-use Rattle.definition.specs.Rows.{orZero}
 use Rattle.laws.proofs.Passes.{first-clear, not-both}
 
 -- a place that is a block's
@@ -57,12 +56,3 @@ class-inside rows indices noskip bx by bh e =
       low = not-false (indicesUpTo 9 indices) (d .1);
       masks = ltb-false noskip bh (r .0);
     }
-
--- a refused call answers zeros
-pub index-refused : (status n : ℕ) → (status ≡ 0 → ⊥) → 0 ≡ orZero status n
-index-refused zero n h = absurd (h refl)
-index-refused (suc status) n h = refl
-
--- one that is not refused what was computed
-pub index-served : (status n r : ℕ) → status ≡ 0 → r ≡ n → r ≡ orZero status n
-index-served status n r z e = rw z e

@@ -7,6 +7,7 @@ pub mod Padding
 pub mod Blocks
 pub mod Limits
 pub mod Units
+pub mod Planes
 pub mod Calls
 pub mod Refusals
 pub mod Leaves

@@ -26,3 +26,13 @@ strideLimit = 65536
 -- the entries of a class map
 abbrev pub mapSize : ℕ
 mapSize = 4096
+
+-- the sides of a plane that is restored whole, the side of its units, and the rows of scratch lent for it
+abbrev pub planeSideLimit : ℕ
+planeSideLimit = 1024
+
+abbrev pub unitSizeLimit : ℕ
+unitSizeLimit = 64
+
+abbrev pub scratchRows : ℕ
+scratchRows = 8

@@ -9,9 +9,11 @@ use Rattle.definition.specs.declared.Given.{Given}
 use Rattle.definition.specs.declared.Sizes.{Sizes}
 use Rattle.definition.specs.Padding.{hasLeft, hasRight, hasTop, hasBottom, topIntegrated, bottomIntegrated}
 use Rattle.definition.specs.Blocks.{side}
-use Rattle.definition.specs.Limits.{widthLimit, heightLimit, blockColumnLimit, blockRowLimit, strideLimit, mapSize}
+use Rattle.definition.specs.Limits.{widthLimit, heightLimit, blockColumnLimit, blockRowLimit, strideLimit, mapSize, planeSideLimit, unitSizeLimit, scratchRows}
 use Rattle.definition.specs.ClassIndex.{lastColumn}
+use Rattle.definition.specs.declared.Operation.the-variants.{Luma}
 use Rattle.definition.specs.Units.{border, classed, chromatic, setSize, Lent}
+use Rattle.definition.specs.Planes.{skipNumbers}
 
 -- a condition with the number that is returned where it holds
 infix 30 _⇒_
@@ -211,3 +213,16 @@ classChecks rows indices noskip bx by bh =
 
 unfoldable pub classStatus : ℕ → List ℕ → ℕ → ℕ → ℕ → ℕ → ℕ
 classStatus rows indices noskip bx by bh = lowest (classChecks rows indices noskip bx by bh)
+
+-- A WHOLE LUMA PLANE, by the numbers and the lengths of what is lent: 15, a side or the unit size off its limits, precedes all; then plane, skip list and filter, and scratch last
+abbrev pub planeChecks : ℕ → ℕ → ℕ → ℕ → ℕ → ℕ → ℕ → List Check
+planeChecks w h u plane skip filter scratch =
+    ((not (sized planeSideLimit w) || not (sized planeSideLimit h) || not (sized unitSizeLimit u)) ⇒ 15) ∷
+    (ltb plane (h * w) ⇒ 5) ∷
+    (ltb skip (h / side * skipNumbers w) ⇒ 9) ∷
+    (not (eqb filter (setSize Luma)) ⇒ 10) ∷
+    (ltb scratch (scratchRows * w) ⇒ 16) ∷
+    []
+
+unfoldable pub planeStatus : ℕ → ℕ → ℕ → ℕ → ℕ → ℕ → ℕ → ℕ
+planeStatus w h u plane skip filter scratch = lowest (planeChecks w h u plane skip filter scratch)

@@ -60,6 +60,16 @@ pub const STRIDE_LIMIT: usize = 65536;
 
 pub const MAP_SIZE: usize = 4096;
 
+// The blocks to a number of a mask, a bit each.
+pub const MASK_BITS: usize = 16;
+
+// The sides of a plane that is restored whole, the side of its units, and the rows of scratch lent for it.
+pub const PLANE_SIDE_LIMIT: usize = 1024;
+
+pub const UNIT_SIZE_LIMIT: usize = 64;
+
+pub const SCRATCH_ROWS: usize = 8;
+
 // The last column of the noskip bits.
 pub const LAST_COLUMN: usize = 15;
 

@@ -1,7 +1,7 @@
-// The leaves, the whole units and the units that can be broken off, for programs in C or Rust: each function hands on
+// The leaves, the whole units, the units that can be broken off and whole planes, for programs in C or Rust: each function hands on
 // what it is lent, and promises what the function promises that it calls.
 // A slice is a pointer and a length, an array one pointer, a struct as C passes it.
-// The operations on units stand in a file each.
+// The operations on units and on a plane stand in a file each.
 ghost use mathlib.Core.Path.{_≡_};
 ghost use lib.ListN.{length};
 ghost use Rattle.definition.specs.ClassIndex.{term, classIndex};
@@ -24,6 +24,7 @@ pub mod open_y;
 pub mod whole_c;
 pub mod whole_n;
 pub mod whole_p;
+pub mod whole_plane;
 pub mod whole_y;
 
 #[no_mangle]

@@ -4,6 +4,7 @@ pub mod Rounding
 pub mod Sums
 pub mod Lists
 pub mod Tables
+pub mod Agree
 pub mod Passes
 pub mod Tests
 pub mod Checks

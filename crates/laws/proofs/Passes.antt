@@ -8,7 +8,7 @@ use native.Mathlib.Decide.{ℕ-discrete}
 use native.Mathlib.Numerals.{add-one}
 use native.Mathlib.Omega.{arith}
 use lib.ListN.{getD}
-use Rattle.definition.specs.Rows.{outsideUnless, unlessRefused}
+use Rattle.definition.specs.Rows.{outsideUnless, orZero, unlessRefused}
 use Rattle.definition.specs.Refusals.{firstPass}
 use Rattle.laws.proofs.Ints.{never}
 
@@ -31,6 +31,14 @@ inside false e = absurd (omega arith)
 pub refused : (status : ℕ) (old written : List ℕ) → (status ≡ 0 → ⊥) → old ≡ unlessRefused status old written
 refused zero old written h = absurd (h refl)
 refused (suc status) old written h = refl
+
+-- .. and answers zero; one that is not refused answers what it worked out
+pub none-answered : (status n : ℕ) → (status ≡ 0 → ⊥) → 0 ≡ orZero status n
+none-answered zero n h = absurd (h refl)
+none-answered (suc status) n h = refl
+
+pub answered : (status n r : ℕ) → status ≡ 0 → r ≡ n → r ≡ orZero status n
+answered status n r z e = rw z e
 
 -- the first of several conditions does not apply
 pub first-clear : (b : Bool) (n rest : ℕ) → 0 < n → cond b n rest ≡ 0 → (b ≡ false) × (rest ≡ 0)

@@ -7,8 +7,8 @@ ghost use lib.Dec.{ltb, eqb};
 ghost use lib.ListN.{length};
 ghost use Rattle.definition.specs.Numbers.{bitSet};
 ghost use Rattle.definition.specs.Units.{chromatic, setSize};
-ghost use Rattle.definition.specs.Limits.{widthLimit, heightLimit, blockColumnLimit, strideLimit};
-ghost use Rattle.definition.specs.Refusals.{unitStatus, lowest, every, firstPass, badShape, badKept, indexLimit, nextLimit, sized, outside, bottomRows, badStride, badPair, badPlane, badLeft, badTop, badBottom, badMasks, badFilters, lumaRows, lumaAbove, lumaDown, lumaTopRows, lumaOutside, anyLumaOutside, badLuma, badMap};
+ghost use Rattle.definition.specs.Limits.{widthLimit, heightLimit, blockColumnLimit, strideLimit, planeSideLimit, unitSizeLimit};
+ghost use Rattle.definition.specs.Refusals.{unitStatus, lowest, every, firstPass, badShape, badKept, indexLimit, nextLimit, sized, outside, bottomRows, badStride, badPair, badPlane, badLeft, badTop, badBottom, badMasks, badFilters, lumaRows, lumaAbove, lumaDown, lumaTopRows, lumaOutside, anyLumaOutside, badLuma, badMap, planeStatus};
 ghost use Rattle.refusals.specs.Table.{firstChecks, laterChecks, highest, LumaWithin, Within};
 use bounds::is_set;
 use bounds::is_sized;
@@ -19,9 +19,12 @@ use definition::Given;
 use definition::HEIGHT_LIMIT;
 use definition::MAP_SIZE;
 use definition::Operation;
+use definition::PLANE_SIDE_LIMIT;
+use definition::SCRATCH_ROWS;
 use definition::SIDE;
 use definition::STRIDE_LIMIT;
 use definition::Sizes;
+use definition::UNIT_SIZE_LIMIT;
 use definition::WIDTH_LIMIT;
 use operations::border_of;
 use operations::is_chroma;
@@ -383,4 +386,46 @@ pub fn bad_kept(op: Operation, classes: &[u8; BLOCK_COLUMN_LIMIT], filters: usiz
         return past_filters(classes, filters, set_size(op));
     }
     false
+}
+
+fn bad_sides(w: usize, h: usize, unit: usize) -> bool
+    ensures { λ r. ⌜ r ≡ (not (sized planeSideLimit w) || not (sized planeSideLimit h) || not (sized unitSizeLimit unit)) ⌝ }
+{
+    if !is_sized(w, PLANE_SIDE_LIMIT) {
+        return true;
+    }
+    if !is_sized(h, PLANE_SIDE_LIMIT) {
+        return true;
+    }
+    !is_sized(unit, UNIT_SIZE_LIMIT)
+}
+
+// A whole luma plane, by its sides, the side of its units and the lengths of what is lent.
+pub fn plane_status(
+    w: usize,
+    h: usize,
+    unit: usize,
+    plane: usize,
+    skip: usize,
+    filter: usize,
+    scratch: usize,
+) -> u8
+    ensures { λ r. ⌜ r ≡ planeStatus w h unit plane skip filter scratch ⌝ }
+{
+    if bad_sides(w, h, unit) {
+        return 15;
+    }
+    if plane < h * w {
+        return 5;
+    }
+    if skip < h / SIDE * blocks::skip_numbers(w) {
+        return 9;
+    }
+    if filter != set_size(Operation::Luma) {
+        return 10;
+    }
+    if scratch < SCRATCH_ROWS * w {
+        return 16;
+    }
+    0
 }

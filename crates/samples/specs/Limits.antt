@@ -11,7 +11,7 @@ use Rattle.definition.specs.declared.Operation.the-variants.{Luma, User, Pretra
 use Rattle.definition.specs.declared.Given.{Given}
 use Rattle.definition.specs.declared.Sizes.{Sizes}
 use Rattle.definition.specs.Units.{Lent, numberOf, classed, setSize}
-use Rattle.definition.specs.Refusals.{_⇒_, lowest, sizesOf, unitStatus, firstPass, badShape, badKept, classStatus}
+use Rattle.definition.specs.Refusals.{_⇒_, lowest, sizesOf, unitStatus, firstPass, badShape, badKept, classStatus, planeStatus}
 
 -- a status beside the table's number; the least number that passes, beside the status of one less; the greatest, beside the status of one more
 infix 20 _gives_
@@ -247,6 +247,10 @@ shorter which =
 -- 12: the class index, by the rows' bytes, a row index, the masks and bx, by, block rows
 index : ℕ → ℕ → ℕ → ℕ → ℕ → ℕ → ℕ
 index rows at noskip bx by bh = classStatus rows (replicate 10 at) noskip bx by bh
+
+-- a whole plane, lent what the largest asks for
+whole : ℕ → ℕ → ℕ → ℕ
+whole w h u = planeStatus w h u 1048576 4096 16 8192
 
 -- 13: the state of a unit of four rows, by the number of its operation, rows done, one of its ten row indices, and its next row
 shape : Operation → ℕ → ℕ → ℕ → ℕ → ℕ → ℕ
@@ -497,8 +501,33 @@ table =
     (kept Pretrained 38 15 takes 1 else 13) ∷
     (kept Luma 16 15 255 gives 0) ∷
     (kept Chroma 18 15 255 gives 0) ∷
+    -- a whole plane: a side that is no multiple of 4 in 4 to 1,024, a unit size that is none in 4 to 64
+    (whole 4 4 4 gives 0) ∷
+    (whole 1024 1024 64 gives 0) ∷
+    (whole 0 4 4 gives 15) ∷
+    (whole 6 4 4 gives 15) ∷
+    (whole 1028 4 4 gives 15) ∷
+    (whole 4 0 4 gives 15) ∷
+    (whole 4 6 4 gives 15) ∷
+    (whole 4 1028 4 gives 15) ∷
+    (whole 4 4 0 gives 15) ∷
+    (whole 4 4 6 gives 15) ∷
+    (whole 4 4 68 gives 15) ∷
+    -- .. its bytes; its skip numbers, one for 64 columns; its filter; scratch of eight rows
+    ((λ bytes. planeStatus 12 8 4 bytes 2 16 96) needs 96 else 5) ∷
+    ((λ numbers. planeStatus 64 8 4 512 numbers 16 512) needs 2 else 9) ∷
+    ((λ numbers. planeStatus 68 8 4 544 numbers 16 544) needs 4 else 9) ∷
+    ((λ taps. planeStatus 12 8 4 96 2 taps 96) needs 16 else 10) ∷
+    ((λ taps. planeStatus 12 8 4 96 2 taps 96) takes 16 else 10) ∷
+    ((λ bytes. planeStatus 12 8 4 96 2 16 bytes) needs 96 else 16) ∷
+    -- .. everything wrong from one of them on
+    (planeStatus 6 8 4 0 0 0 0 gives 15) ∷
+    (planeStatus 12 8 4 0 0 0 0 gives 5) ∷
+    (planeStatus 12 8 4 96 0 0 0 gives 9) ∷
+    (planeStatus 12 8 4 96 2 0 0 gives 10) ∷
+    (planeStatus 12 8 4 96 2 16 0 gives 16) ∷
     []
 
 limits : agree table ≡ true
-unfolding agree table count first none ample numbers lengths status zeros lists byLists small luma unit beside enough sides plane lumaStride sampled leftList above below masks filters listed mapped starting ending two lumaPlane lumaAbove lumaBelow wrongFrom shorter index shape handed done rowIndex next kept unitStatus firstPass classStatus
+unfolding agree table count first none ample numbers lengths status zeros lists byLists small luma unit beside enough sides plane lumaStride sampled leftList above below masks filters listed mapped starting ending two lumaPlane lumaAbove lumaBelow wrongFrom shorter index shape handed done rowIndex next kept unitStatus firstPass classStatus whole planeStatus
 limits = refl

@@ -26,7 +26,8 @@ use Rattle.model.proofs.Rows.{padRow, own, src, firstRow, pad-same, pad-size, r
 use Rattle.model.proofs.LumaRows.{lumaPadRow, luma-size, luma-first, luma-rule, luma-view, luma-centre, step-two}
 use Rattle.model.proofs.Opening.{openRing, filled, filled-size, opens, opened-ring, src-starts, openOwn, openLuma}
 use Rattle.model.proofs.Fine.{Fine, fine, row-room}
-use Rattle.model.proofs.Views.{chroma-agree, viewAround, flat-view, pad-view, place-high, place-split}
+use Rattle.laws.proofs.Agree.{chroma-agree}
+use Rattle.model.proofs.Views.{viewAround, flat-view, pad-view, place-high, place-split}
 use Rattle.units.specs.declared.State.{State}
 use Rattle.units.specs.Openings.{openState}
 use Rattle.units.proofs.Frames.{frameOf}

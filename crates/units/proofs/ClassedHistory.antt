@@ -27,7 +27,8 @@ use lib.Dec.{T}
 use lib.Signed.{nonNeg}
 use Rattle.laws.proofs.Ints.{sub-pos, never}
 use Rattle.model.proofs.Rows.{padRow, own, src, pad-same, pad-size, ring-rule, firstRow}
-use Rattle.model.proofs.Views.{Agree, luma-agree, pretrained-agree, viewAround, flat-view, row-view, pad-view, place-high}
+use Rattle.laws.proofs.Agree.{Agree, luma-agree, pretrained-agree}
+use Rattle.model.proofs.Views.{viewAround, flat-view, row-view, pad-view, place-high}
 use Rattle.model.proofs.Classes.{Eight, class-same}
 use Rattle.definition.specs.Refusals.{rowsSize, sizesOf, every, badKept, indexLimit, nextLimit, openStatus}
 use Rattle.laws.proofs.Passes.{both, pass-all, not-both}

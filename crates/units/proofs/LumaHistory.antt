@@ -23,7 +23,8 @@ use Rattle.history.proofs.Theorem.{Shown, theorem}
 use Rattle.model.proofs.Rows.{padRow, own, src, pad-same, ring-rule}
 use Rattle.model.proofs.Opening.{openRing, opens}
 use Rattle.model.proofs.Fine.{Fine, fine, row-room}
-use Rattle.model.proofs.Views.{luma-agree, viewAround, flat-view, pad-view, place-high}
+use Rattle.laws.proofs.Agree.{luma-agree}
+use Rattle.model.proofs.Views.{viewAround, flat-view, pad-view, place-high}
 use Rattle.units.specs.declared.State.{State}
 use Rattle.units.specs.Openings.{openState}
 use Rattle.units.proofs.Frames.{frameOf}

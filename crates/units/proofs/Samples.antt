@@ -15,7 +15,7 @@ use Rattle.definition.specs.Sample.{limit8}
 use Rattle.definition.specs.Units.{classed}
 use Rattle.definition.specs.Leaves.{coefficients}
 use Rattle.laws.proofs.Lists.{tab-cong}
-use Rattle.model.proofs.Views.{luma-agree, pretrained-agree, chroma-agree}
+use Rattle.laws.proofs.Agree.{luma-agree, pretrained-agree, chroma-agree}
 use Rattle.definition.specs.Calls.{filtersOf}
 use Rattle.model.proofs.Cells.{lumaUnmasked, pretrainedUnmasked, chromaUnmasked, unmasked, setStart, setFor, HasSet, unmaskedCell}
 

@@ -6,7 +6,8 @@ use lib.ListN.{length}
 use mir.Facts.{toZ-ofZ}
 use Rattle.definition.specs.ClassIndex.{skipSum, skipFactor, indexOf}
 use Rattle.definition.specs.Leaves.{placeStatus}
-use Rattle.class_index.proofs.Statuses.{place-inside, index-refused, index-served}
+use Rattle.laws.proofs.Passes.{none-answered, answered}
+use Rattle.class_index.proofs.Statuses.{place-inside}
 use borrow.Author.Needs.{needs}
 use Rattle.class_index.proofs.class_of_features.Statement.{statement}
 use Rattle.class_index.proofs.class_of_features.Tie as tie
@@ -17,7 +18,7 @@ place-status-requires c κs = search needs
 returns : tie.Need-returns
 returns c =
     let e = c .before .place-status .ensures in
-    (e, index-refused _ _ (λ z. c .if1 .taken (e ∙ z)))
+    (e, none-answered _ _ (λ z. c .if1 .taken (e ∙ z)))
 
 index-of-requires : tie.Need-index-of-requires
 index-of-requires c κs =
@@ -32,7 +33,7 @@ returns-2 c =
     let status = placeStatus (length (a .noskip .now)) (a .bx) (a .by) (a .bh) in
     let z : status ≡ 0 = sym (c .before .before .place-status .ensures) ∙ c .before .if1 .left in
     let t = skipFactor * skipSum (a .noskip .now) (a .bh) (a .bx) (a .by) in
-    (sym z, index-served status _ (c .index-of .result) z (c .index-of .ensures ∙ ap (λ (q : ℤ). indexOf (a .vertical) (a .falling) (a .rising) q t) (toZ-ofZ (o .fits .base-q))))
+    (sym z, answered status _ (c .index-of .result) z (c .index-of .ensures ∙ ap (λ (q : ℤ). indexOf (a .vertical) (a .falling) (a .rising) q t) (toZ-ofZ (o .fits .base-q))))
 
 pub class-of-features-spec : {M : Type 1} → statement M
 class-of-features-spec =

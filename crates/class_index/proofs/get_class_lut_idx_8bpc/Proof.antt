@@ -9,7 +9,8 @@ use Rattle.definition.specs.ClassIndex.{skipSum, skipFactor, indexOf, classInde
 use Rattle.definition.specs.Refusals.{classStatus}
 use Rattle.definition.specs.Leaves.{blockFlat, featureAt, featureSums}
 use Rattle.features.proofs.Statuses.{block-inside}
-use Rattle.class_index.proofs.Statuses.{class-inside, index-refused, index-served}
+use Rattle.laws.proofs.Passes.{none-answered, answered}
+use Rattle.class_index.proofs.Statuses.{class-inside}
 use borrow.Author.Needs.{needs}
 use Rattle.class_index.proofs.get_class_lut_idx_8bpc.Statement.{statement}
 use Rattle.class_index.proofs.get_class_lut_idx_8bpc.Tie as tie
@@ -22,7 +23,7 @@ returns c =
     let a = c .before .before .before .before .before .args in
     let e = c .before .class-status .ensures in
     let status = classStatus (length (a .rows .now)) (a .t2) (length (a .noskip .now)) (a .bx) (a .by) (a .bh) in
-    (e, index-refused status (classIndex (blockFlat (a .rows .now) (a .t2) (a .bx)) (a .noskip .now) (a .base-q) (a .bx) (a .by) (a .bh)) (λ z. c .if1 .taken (e ∙ z)))
+    (e, none-answered status (classIndex (blockFlat (a .rows .now) (a .t2) (a .bx)) (a .noskip .now) (a .base-q) (a .bx) (a .by) (a .bh)) (λ z. c .if1 .taken (e ∙ z)))
 
 pcw-features-requires : tie.Need-pcw-features-requires
 pcw-features-requires c κs = search needs
@@ -45,7 +46,7 @@ returns-2 c =
     let e : f .result .status ≡ 0 = f .ensures .0 ∙ block-inside (length (a .rows .now)) (a .t2) (a .bx) (p .size) (p .low) (p .place .column) in
     let sums = f .ensures .1 ∙ ap (λ (n : ℕ). featureSums n (λ d. featureAt (a .rows .now) (a .t2) d (a .bx))) e in (
       sym z,
-      index-served status _ (c .index-of .result) z
+      answered status _ (c .index-of .result) z
           (c .index-of .ensures ∙ (λ k. indexOf (getD (sums k) 0 0) (getD (sums k) 1 0) (getD (sums k) 2 0) (q-is k) (skipFactor * skipSum (a .noskip .now) (a .bh) (a .bx) (a .by)))),
     )
 

@@ -1,0 +1,9 @@
+pub mod Cut
+pub mod Masks
+pub mod Unit
+pub mod Final
+pub mod Order
+pub mod Walk
+pub mod Admit
+pub mod Pieces
+pub mod Answers
