@@ -14,6 +14,9 @@
 //! What is written over all four takes a [`Lent`], which says the [`Operation`] and holds what it alone is lent: [`restore`],
 //! or [`State::open`] and [`State::advance`].
 //!
+//! A whole luma plane, cut into units and restored in one call without borders: [`restore_plane`], with its numbers in
+//! [`PlaneUnits`].
+//!
 //! Where tealdust would panic, or where a number is off its limit, a [`Refusal`] comes back and no byte is written. Nested
 //! lists are handed over flat: `left.as_flattened()`, `ll_mask.as_flattened()`.
 //!
@@ -36,6 +39,7 @@
 mod call;
 mod lent;
 mod operation;
+mod plane;
 pub mod raw;
 mod refusal;
 mod state;
@@ -43,6 +47,7 @@ mod whole;
 
 pub use lent::{Borders, Classes, Luma, LumaUnit, Unit, edges};
 pub use operation::{Lent, Operation, restore};
+pub use plane::{PlaneUnits, restore_plane};
 pub use refusal::Refusal;
 pub use state::State;
 pub use whole::{

@@ -145,7 +145,7 @@ pub struct Advanced {
     pub state: State,
 }
 
-/// What a whole unit answers.
+/// What a whole unit or a plane answers.
 #[repr(C)]
 #[derive(Clone, Copy, Debug, PartialEq, Eq)]
 pub struct Restored {
@@ -237,6 +237,11 @@ functions! {
         bottom_off: usize, w: usize, h: usize, filter: &[i8], luma_plane: &[u8], luma_off: usize, luma_stride: usize,
         luma_top: &[u8], luma_top_off: usize, luma_bottom: &[u8], luma_bottom_off: usize, ss_hor: usize, ss_ver: usize,
         kind: usize, edges: usize, skip: &[u16],
+    ) -> Restored;
+
+    /// The first `count` units of a luma plane.
+    fn gihvendu_restore_plane(
+        plane: &mut [u8], w: usize, h: usize, unit: usize, count: usize, filter: &[i8], skip: &[u16], scratch: &mut [u8],
     ) -> Restored;
 
     /// Whether all rows of a unit are done.

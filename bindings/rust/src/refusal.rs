@@ -1,7 +1,8 @@
 use std::error::Error;
 use std::fmt::{self, Display, Formatter};
 
-/// Why a call is declined: the numbers of the table in docs/SCOPE.md, 'Refusals', the lowest that applies. A declined call writes no byte.
+/// Why a call is declined: the numbers of the table in docs/SCOPE.md, 'Refusals', the lowest that applies, but 12, 13 and 15
+/// before all others. A declined call writes no byte.
 ///
 /// Number 14 belongs to the card and cannot come from here.
 #[repr(u8)]
@@ -15,8 +16,8 @@ pub enum Refusal {
     Stride = 3,
     /// Chroma: another pair than (0, 0), (1, 0) and (1, 1), or a kind over 2.
     Subsampling = 4,
-    /// A sample of the unit's own plane that is written or padded from lies outside; of the class index, its rows are under
-    /// 760 bytes or a row index is over 9.
+    /// A sample of the unit's own plane that is written or padded from lies outside; of a whole plane, it is under w × h
+    /// bytes; of the class index, its rows are under 760 bytes or a row index is over 9.
     Plane = 5,
     /// With the left bit, the left list is under six bytes for each row.
     Left = 6,
@@ -24,7 +25,8 @@ pub enum Refusal {
     Top = 7,
     /// A saved sample below the unit that is padded from lies outside.
     Bottom = 8,
-    /// The skip masks are under the height, or the noskip masks under one for each block row.
+    /// The skip masks are under the height, or the noskip masks under one for each block row; of a whole plane, the skip masks
+    /// are under [`PlaneUnits::skip_len`](crate::PlaneUnits::skip_len).
     Masks = 9,
     /// The filter has another length, or an entry of the class map or of the subclass list points past the end.
     Filters = 10,
@@ -34,11 +36,15 @@ pub enum Refusal {
     Block = 12,
     /// The state is of another operation or of no unit, or its numbers are no state's.
     State = 13,
+    /// Whole plane: a side is not a multiple of 4 in 4 to 1,024, or the unit size not one in 4 to 64.
+    PlaneSides = 15,
+    /// Whole plane: the scratch list is under 8 × w bytes.
+    Scratch = 16,
 }
 
 impl Refusal {
     /// All of them, by their numbers.
-    pub const ALL: [Refusal; 13] = [
+    pub const ALL: [Refusal; 15] = [
         Refusal::Width,
         Refusal::Height,
         Refusal::Stride,
@@ -52,6 +58,8 @@ impl Refusal {
         Refusal::Luma,
         Refusal::Block,
         Refusal::State,
+        Refusal::PlaneSides,
+        Refusal::Scratch,
     ];
 
     /// The number in the table.
@@ -68,6 +76,9 @@ impl Refusal {
     /// assert_eq!(Refusal::from_status(7), Some(Refusal::Top));
     /// assert_eq!(Refusal::from_status(0), None);
     /// assert_eq!(Refusal::from_status(14), None);
+    /// assert_eq!(Refusal::from_status(15), Some(Refusal::PlaneSides));
+    /// assert_eq!(Refusal::from_status(16), Some(Refusal::Scratch));
+    /// assert_eq!(Refusal::from_status(17), None);
     /// ```
     pub fn from_status(status: u8) -> Option<Refusal> {
         Refusal::ALL.into_iter().find(|r| r.number() == status)
@@ -78,7 +89,8 @@ impl Refusal {
         if status == 0 {
             return Ok(());
         }
-        Err(Refusal::from_status(status).expect("by its contracts the library answers 0 to 13"))
+        Err(Refusal::from_status(status)
+            .expect("by its contracts the library answers 0 to 13, 15 and 16"))
     }
 }
 
@@ -98,6 +110,10 @@ impl Display for Refusal {
             Refusal::Luma => "a sample of the luma plane or of its borders lies outside",
             Refusal::Block => "no such block",
             Refusal::State => "the state is of another operation, or no state",
+            Refusal::PlaneSides => {
+                "a side of the plane is not a multiple of 4 in 4 to 1,024, or the unit size not one in 4 to 64"
+            }
+            Refusal::Scratch => "the scratch list is too short",
         };
         write!(f, "{what} ({})", self.number())
     }

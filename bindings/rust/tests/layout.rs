@@ -1,6 +1,6 @@
-//! The state crosses over whole: each of its numbers is found where it was put.
+//! The state crosses over whole, and so do a plane's numbers and lists: each is found where it was put.
 
-use gihvendu::{Borders, Luma, LumaUnit, State, Unit, edges, raw};
+use gihvendu::{Borders, Luma, LumaUnit, PlaneUnits, State, Unit, edges, raw, restore_plane};
 
 #[test]
 fn chroma_numbers() {
@@ -69,4 +69,33 @@ fn last_byte() {
         (handed.status, handed.pieces, handed.state),
         (13, 0, forged)
     );
+}
+
+/// 8 by 12 samples in units of 4, of which three are restored: two of the first row and the left one of the second. No two of
+/// the four numbers can have changed places. The block right of the first is masked.
+#[test]
+fn plane_numbers() {
+    let units = PlaneUnits {
+        w: 8,
+        h: 12,
+        unit: 4,
+        count: 3,
+    };
+    // The mean of the samples left and right. At the plane's left side 8 stands once more: (8 + 24) / 2 = 16.
+    let mut filter = [0; 16];
+    filter[1] = 64;
+    let old = [8, 24, 8, 24, 8, 24, 8, 24];
+    let left = [16, 8, 24, 8, 8, 24, 8, 24];
+    let mut plane = [old; 12];
+    let mut scratch = [0; 8 * 8];
+    let pieces = restore_plane(
+        plane.as_flattened_mut(),
+        &units,
+        &filter,
+        &[2, 0, 0],
+        &mut scratch,
+    );
+    assert_eq!(pieces, Ok(4 + 4));
+    assert_eq!(plane[..8], [left; 8]);
+    assert_eq!(plane[8..], [old; 4]);
 }

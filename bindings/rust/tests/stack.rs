@@ -1,8 +1,10 @@
-//! Every operation on a 64 by 64 unit, whole and opened and advanced, on a thread whose whole stack is 64 KiB.
+//! Every operation on a 64 by 64 unit, whole and opened and advanced, and a whole plane of 1,024 by 1,024, on a thread whose
+//! whole stack is 64 KiB.
 
 use gihvendu::{
-    Borders, Classes, Lent, Luma, LumaUnit, State, Unit, get_class_lut_idx_8bpc,
+    Borders, Classes, Lent, Luma, LumaUnit, PlaneUnits, State, Unit, get_class_lut_idx_8bpc,
     ns_wiener_multi_8bpc, ns_wiener_single_uv_8bpc, ns_wiener_single_y_8bpc, pc_wiener_8bpc,
+    restore_plane,
 };
 
 const UNIT: Unit = Unit {
@@ -79,6 +81,11 @@ fn in_64_kib() {
         }
         let index = get_class_lut_idx_8bpc(&[0; 760], &[0; 10], &noskip, 0, 3, 2, 16);
         assert!(index.is_ok());
+        let units = PlaneUnits::all(1024, 1024);
+        let mut plane = vec![7; 1024 * 1024];
+        let (skip, mut scratch) = (vec![0; units.skip_len()], vec![0; units.scratch_len()]);
+        let pieces = restore_plane(&mut plane, &units, &[1; 16], &skip, &mut scratch);
+        assert_eq!(pieces, Ok(1024 * 256));
     };
     let thread = std::thread::Builder::new().stack_size(64 * 1024).spawn(run);
     thread.expect("a thread").join().expect("it ends");
