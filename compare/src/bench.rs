@@ -22,14 +22,14 @@ const ORIGIN: usize = 6;
 /// The two sorts of filters that the port's runs tell apart: all numbers within 21, or not. The last number of a pretrained
 /// set does not count.
 #[derive(Clone, Copy, PartialEq)]
-enum Sort {
+pub(crate) enum Sort {
     Small,
     Large,
 }
 
 impl Sort {
     /// The sort of some numbers.
-    fn of(numbers: impl IntoIterator<Item = i16>) -> Sort {
+    pub fn of(numbers: impl IntoIterator<Item = i16>) -> Sort {
         if numbers.into_iter().all(|c| (-21..=21).contains(&c)) {
             Sort::Small
         } else {
@@ -37,7 +37,7 @@ impl Sort {
         }
     }
 
-    fn name(self) -> &'static str {
+    pub fn name(self) -> &'static str {
         match self {
             Sort::Small => "small",
             Sort::Large => "large",
@@ -45,7 +45,7 @@ impl Sort {
     }
 
     /// A number of a filter whose greatest is `greatest`.
-    fn number(self, r: &mut Random, greatest: i64) -> i16 {
+    pub fn number(self, r: &mut Random, greatest: i64) -> i16 {
         match self {
             Sort::Small => r.within(-12, 12) as i16,
             Sort::Large => r.within(-greatest - 1, greatest) as i16,

@@ -27,21 +27,28 @@
 //!     compare units SEED COUNT      COUNT random whole units of each operation, every byte of the plane
 //!     compare advances SEED COUNT   COUNT random units of each operation in random lists of advances, refused calls and
 //!                                   overwritten rows, against the Rust's one call
+//!     compare planes SEED COUNT     COUNT random luma planes in units of every size, one call by the port, against the Rust unit
+//!                                   by unit and a second reading of the rule sample by sample; and the call's refusals
 //!     compare refusals SEED COUNT   units and states at the limits of the table and past them, against a second reading of
 //!                                   the table
 //!     compare differences           the intended differences, each at a smallest input
 //!     compare bench                 nanoseconds of the Rust's scalar functions and of the port's; filter runs by small filters, whose
-//!                                   numbers are within 21, and by large ones
+//!                                   numbers are within 21, and by large ones; a plane by one call beside its units
+//!     compare bench planes          the last of these alone
 
 #[cfg(feature = "linked")]
 mod advances;
 #[cfg(feature = "linked")]
 mod bench;
 #[cfg(feature = "linked")]
+mod bench_planes;
+#[cfg(feature = "linked")]
 mod bench_units;
 #[cfg(feature = "linked")]
 mod calls;
 mod cards;
+#[cfg(feature = "linked")]
+mod cuts;
 #[cfg(feature = "linked")]
 mod differences;
 #[cfg(feature = "linked")]
@@ -50,6 +57,10 @@ mod disturb;
 mod grid;
 #[cfg(feature = "linked")]
 mod leaves;
+#[cfg(feature = "linked")]
+mod plane_refusals;
+#[cfg(feature = "linked")]
+mod planes;
 mod random;
 #[cfg(feature = "linked")]
 mod refusals;
@@ -77,7 +88,7 @@ include!(concat!(env!("OUT_DIR"), "/reference.rs"));
 
 fn usage() -> ! {
     eprintln!(
-        "usage: compare vectors | leaves | units | advances | refusals SEED COUNT, grid SEED, cards SEED FOLDER, replay, traps, differences, bench"
+        "usage: compare vectors | leaves | units | advances | planes | refusals SEED COUNT, grid SEED, cards SEED FOLDER, replay, traps, differences, bench [planes]"
     );
     std::process::exit(2);
 }
@@ -101,11 +112,17 @@ fn linked(words: &[&str]) {
         ["grid", seed] => grid::compare(printed(seed)),
         ["units", seed, count] => whole::compare(printed(seed), number(count)),
         ["advances", seed, count] => advances::compare(printed(seed), number(count)),
+        ["planes", seed, count] => planes::compare(printed(seed), number(count)),
         ["refusals", seed, count] => refusals::compare(printed(seed), number(count)),
         ["differences"] => differences::compare(),
         ["bench"] => {
             bench::run();
             bench_units::run();
+            bench_planes::run();
+            true
+        }
+        ["bench", "planes"] => {
+            bench_planes::run();
             true
         }
         _ => usage(),
