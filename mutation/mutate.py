@@ -177,12 +177,13 @@ def program_sites(file, text):
 
 # ---- the definition
 
-ABOVE = ('samples laws model vectors intops bounds operations blocks history card_laws card_reader features padding qval class_index filter refusals units'
-         ' whole card_answer paused gihvendu').split()
+ABOVE = ('samples laws model vectors intops bounds operations blocks history card_laws plane_laws card_reader features padding qval class_index filter refusals units'
+         ' whole plane claims card_answer paused gihvendu').split()
 # the crates that lean on a file most: they are tried first, behind `samples`
 NEAREST = {'Card': 'card_reader card_answer', 'Refusals': 'model operations refusals', 'ClassIndex': 'qval class_index features model', 'Sample': 'model vectors filter',
            'Padding': 'model operations padding', 'Blocks': 'blocks vectors', 'Units': 'model vectors', 'Rows': 'blocks features padding', 'Numbers': 'intops qval',
-           'Leaves': 'blocks qval features class_index padding filter', 'Calls': 'card_answer units', 'Limits': 'bounds refusals'}
+           'Leaves': 'blocks qval features class_index padding filter', 'Calls': 'card_answer units', 'Limits': 'bounds refusals',
+           'Planes': 'plane_laws vectors'}
 RULE = re.compile(r'[()]|"(?:\\.|[^"\\])*"|[^\s();]+|;')
 TURNED = {'ltb': ['leb'], 'leb': ['ltb'], '+': ['-'], '-': ['+'], '*': ['+'], '/': ['%'], '%': ['/'], '+ℤ': ['-ℤ'], '-ℤ': ['+ℤ'], '*ℤ': ['+ℤ'],
           '&&': ['||'], '||': ['&&'], 'min': ['max'], 'true': ['false'], 'false': ['true'], 'not': [''], 'pos': ['negsuc'], 'negsuc': ['pos']}

@@ -1,12 +1,12 @@
 -- What a filter sees: a list of padded rows, `around` which each sample is restored. A filter's sample over the flat rows of a ring is the one over the
 -- list of its window's rows, and over the rows of the plane at the opening it is the definition's (the filters' laws: `Agree` of the crate laws).
-use mathlib.Core.Path.{_≡_, refl, sym, _∙_, ap}
+use mathlib.Core.Path.{_≡_, sym, _∙_, ap}
 use mathlib.Core.List.{List, []}
-use Prim.Native.Nat.{ℕ, zero, suc, _+_, _*_, _-_, _≤_, _<_}
+use Prim.Native.Nat.{ℕ, _+_, _*_, _-_, _≤_, _<_}
 use native.Mathlib.Nat.{mul-comm}
 use native.Mathlib.Omega.{arith}
 use lib.Dec.{T}
-use lib.IntN.{ℤ, pos, negℤ, natAbs, _+ℤ_, _-ℤ_, _*ℤ_, +ℤ-assoc, +ℤ-comm, +ℤ-negℤ-cancel}
+use lib.IntN.{ℤ, pos, natAbs, _+ℤ_, _-ℤ_, +ℤ-assoc, +ℤ-comm, +ℤ-negℤ-cancel}
 use lib.ListN.{getD, drop, replicate, length-replicate}
 use lib.Seq.{getD-take, getD-drop}
 use lib.Signed.{nonNeg, pos-natAbs}

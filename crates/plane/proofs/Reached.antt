@@ -18,7 +18,7 @@ use Rattle.definition.specs.Rows.{tab}
 use Rattle.definition.specs.Blocks.{side}
 use Rattle.definition.specs.Limits.{planeSideLimit, unitSizeLimit}
 use Rattle.definition.specs.Units.{Lent}
-use Rattle.definition.specs.Planes.{sampleIn, unitCount, across, planeAfter, planePieces}
+use Rattle.definition.specs.Planes.{unitCount, across, planeAfter, planePieces}
 use Rattle.definition.specs.Calls.{lumaLent}
 use Rattle.definition.specs.Refusals.{openStatus}
 use Rattle.laws.proofs.Lists.{length-tab, getD-tab, sets-in, sets-other}

@@ -1,7 +1,7 @@
 // What is kept of a plane before it is restored: the rows above the units, and the columns to the left of one.
 ghost use mathlib.Core.Path.{_≡_};
 ghost use mathlib.Core.Bool.{cond};
-ghost use Prim.Native.Nat.{ℕ, _+_, _*_, _-_, _≤_};
+ghost use Prim.Native.Nat.{_+_, _*_, _-_, _≤_};
 ghost use lib.ListN.{length, getD};
 ghost use lib.Seq.{sets};
 ghost use Rattle.definition.specs.Rows.{tab};
@@ -26,12 +26,19 @@ pub fn save_rows(scratch: &mut [u8], to: usize, p: &[u8], w: usize, y: usize, ti
     }
 }
 
-// The four columns before column x of n rows from row y on, as a left list. Before column 0 there are none.
-pub fn columns_before(p: &[u8], w: usize, y: usize, x: usize, n: usize) -> [u8; LEFT_BYTES]
-    requires { ⌜ (w ≤ planeSideLimit) × (x ≤ w) × (y + n ≤ planeSideLimit) × (n ≤ unitSizeLimit) × ((y + n) * w ≤ length (now p)) ⌝ }
+// A left list that takes the four columns before column x, of n rows from row y on: the last four of six bytes to a row. Before column 0 there are none.
+pub fn columns_before(
+    list: &[u8; LEFT_BYTES],
+    p: &[u8],
+    w: usize,
+    y: usize,
+    x: usize,
+    n: usize,
+) -> [u8; LEFT_BYTES]
+    requires { ⌜ (w ≤ planeSideLimit) × (x ≤ w) × (y + n ≤ planeSideLimit) × (n ≤ unitSizeLimit) × ((y + n) * w ≤ length (now p)) × (length (now list) ≡ 6 * unitSizeLimit) ⌝ }
     ensures { λ r. ⌜ (length r ≡ 6 * unitSizeLimit) × (4 ≤ x → Before w y x n (now (p .entry)) r) ⌝ }
 {
-    let mut r = [0u8; LEFT_BYTES];
+    let mut r = *list;
     if x < BORDER {
         return r;
     }

@@ -4,7 +4,6 @@ ghost use mathlib.Core.List.{[]};
 ghost use Prim.Native.Nat.{_*_, _≤_};
 ghost use lib.ListN.{length};
 ghost use Rattle.definition.specs.declared.Operation.the-variants.{Luma};
-ghost use Rattle.definition.specs.Limits.{unitSizeLimit};
 ghost use Rattle.definition.specs.Calls.{lumaLent};
 ghost use Rattle.definition.specs.Planes.{planeAfter, planePieces};
 ghost use Rattle.whole.specs.Whole.{Whole};
@@ -87,7 +86,7 @@ pub fn restore_units(
         let end = x + uw;
         let other = BORDER * w - bank;
         save_rows(scratch, other, p, w, y + uh, x == 0);
-        let next = columns_before(p, w, y, end, uh);
+        let next = columns_before(&left, p, w, y, end, uh);
         let masks = unit_masks(skip, w, h, y, x, uw, uh);
         let r = restore_unit(p, w, h, y, x, uw, uh, &left, scratch, bank, filter, &masks);
         pieces += r.pieces;

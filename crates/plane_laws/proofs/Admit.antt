@@ -1,15 +1,15 @@
 -- A UNIT OF A PLANE IS NOT REFUSED, where what it is lent is long enough.
-use mathlib.Core.Path.{_≡_, refl, sym, _∙_, ap}
+use mathlib.Core.Path.{_≡_, refl, ap}
 use mathlib.Core.Bool.{Bool, true, false, cond, not, _&&_, _||_}
 use mathlib.Core.List.{List}
-use Prim.Native.Nat.{ℕ, zero, suc, _+_, _-_, _*_, _/_, _%_, _≤_, _<_}
+use Prim.Native.Nat.{ℕ, zero, suc, _+_, _-_, _*_, _%_, _≤_, _<_}
 use native.Mathlib.Nat.{mul-le-mul-right, suc-mul, add-mul}
 use native.Mathlib.Decide.{decLt}
 use native.Mathlib.Omega.{arith}
 use lib.Dec.{ltb, eqb}
 use lib.ListN.{length}
 use borrow.Author.Tests.{lt-ltb, le-ltb, le-leb, eq-eqb}
-use Rattle.definition.specs.Padding.{hasLeft, hasRight, hasTop, hasBottom, topIntegrated, bottomIntegrated}
+use Rattle.definition.specs.Padding.{hasLeft, hasRight, hasTop, topIntegrated, bottomIntegrated}
 use Rattle.definition.specs.declared.Operation.the-variants.{Luma}
 use Rattle.definition.specs.declared.Given.{Given}
 use Rattle.definition.specs.Units.{Lent}

@@ -1,16 +1,15 @@
 -- WHAT THE OPERATION ANSWERS: the plane after its first k units as one list, with all units done the restored plane, whatever the unit size; and what a status of 0 says.
---
-use mathlib.Core.Path.{_≡_, refl, sym, _∙_, ap}
-use mathlib.Core.Bool.{Bool, true, false, cond, not, _&&_, _||_}
+use mathlib.Core.Path.{_≡_, sym, _∙_}
+use mathlib.Core.Bool.{cond, not, _&&_, _||_}
 use mathlib.Core.List.{List}
-use Prim.Native.Nat.{ℕ, zero, suc, _+_, _-_, _*_, _/_, _%_, _≤_, _<_}
+use Prim.Native.Nat.{ℕ, _+_, _-_, _*_, _/_, _%_, _≤_, _<_}
 use native.Mathlib.Nat.{mul-le-mul-right, suc-mul, mul-add-div-right, div-eq-of-lt, mul-add-mod-self-right, mod-eq-of-lt, mod-lt, div-lt-iff-lt-mul}
 use native.Mathlib.Decide.{decLt}
 use native.Mathlib.Omega.{arith}
-use lib.Dec.{ltb, leb, eqb}
+use lib.Dec.{ltb, eqb}
 use lib.IntN.{ℤ}
 use lib.ListN.{length, getD, List·getD-eq-default}
-use borrow.Author.Tests.{lt-ltb, le-ltb, ltb-false, leb-true, eqb-true, not-false}
+use borrow.Author.Tests.{lt-ltb, le-ltb, ltb-false, eqb-true, not-false}
 use Rattle.definition.specs.Rows.{tab}
 use Rattle.definition.specs.Blocks.{side}
 use Rattle.definition.specs.Limits.{planeSideLimit, unitSizeLimit, scratchRows}
@@ -19,7 +18,7 @@ use Rattle.laws.proofs.Lists.{tab-cong, length-tab, getD-tab}
 use Rattle.laws.proofs.Inside.{is-sized}
 use Rattle.laws.proofs.Passes.{not-both}
 use Rattle.laws.proofs.Checks.{clear}
-use Rattle.definition.specs.Planes.{sampleIn, finalIn, unitNumber, planeAfter, planeRestored, skipNumbers}
+use Rattle.definition.specs.Planes.{finalIn, unitNumber, planeAfter, planeRestored, skipNumbers}
 use Rattle.plane_laws.proofs.Order.{UnitsDone, Grid}
 use Rattle.plane_laws.proofs.Walk.{AllHeld, one-answer}
 

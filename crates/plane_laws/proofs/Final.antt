@@ -1,8 +1,8 @@
 -- THE FINAL SAMPLE of a unit of a plane is the plane's, where the unit's masks are the plane's skip bits.
 use mathlib.Core.Path.{_≡_, refl, sym, _∙_, ap}
-use mathlib.Core.Bool.{Bool, cond}
+use mathlib.Core.Bool.{cond}
 use mathlib.Core.List.{List}
-use Prim.Native.Nat.{ℕ, zero, suc, _+_, _-_, _*_, _/_, _%_, _≤_, _<_}
+use Prim.Native.Nat.{ℕ, _+_, _-_, _*_, _/_, _≤_, _<_}
 use native.Mathlib.Omega.{arith}
 use lib.IntN.{ℤ, pos, _+ℤ_, +ℤ-assoc}
 use lib.ListN.{getD}
@@ -12,7 +12,7 @@ use Rattle.definition.specs.Sample.{limit8, lumaSample}
 use Rattle.definition.specs.declared.Operation.the-variants.{Luma}
 use Rattle.definition.specs.declared.Given.{Given}
 use Rattle.definition.specs.Units.{Lent, around, setOf, classOf, planeRow, restored, finalSample}
-use Rattle.definition.specs.Planes.{sampleIn, paddedIn, aroundIn, skipNumbers, skipBit, finalIn}
+use Rattle.definition.specs.Planes.{sampleIn, paddedIn, aroundIn, skipBit, finalIn}
 use Rattle.plane_laws.proofs.Cut.{unitMask}
 use Rattle.laws.proofs.Agree.{Agree, luma-agree}
 use Rattle.plane_laws.proofs.Masks.{mask-bit}

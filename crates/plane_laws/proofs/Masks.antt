@@ -1,6 +1,5 @@
 -- THE LAW OF MASKS: a unit's mask is cut out of two neighbouring numbers of the plane's skip list, and its bit k is the skip bit of the unit's block k.
---
-use mathlib.Core.Path.{_≡_, refl, sym, _∙_, ap}
+use mathlib.Core.Path.{_≡_, sym, _∙_, ap}
 use mathlib.Core.Bool.{cond}
 use mathlib.Core.List.{List}
 use Prim.Native.Nat.{ℕ, zero, suc, _+_, _-_, _*_, _/_, _%_, _^_, _≤_, _<_}

@@ -1,16 +1,15 @@
 -- THE ORDER OF UNITS: where unit k lies, which samples the units before it hold, and that a plane after the first k units is untouched where unit k reads it.
---
-use mathlib.Core.Path.{_≡_, refl, sym, _∙_, ap}
+use mathlib.Core.Path.{_≡_, _∙_, ap}
 use mathlib.Core.Bool.{cond}
 use mathlib.Core.List.{List}
-use Prim.Native.Nat.{ℕ, zero, suc, _+_, _-_, _*_, _/_, _%_, _≤_, _<_, min}
-use native.Mathlib.Nat.{mul-le-mul-right, suc-mul, add-mul, div-lt-iff-lt-mul, le-div-iff-mul-le, lt-div-mul-add, mul-comm, mul-assoc, div-add-mod', mod-lt}
+use Prim.Native.Nat.{ℕ, suc, _+_, _-_, _*_, _/_, _%_, _≤_, _<_, min}
+use native.Mathlib.Nat.{mul-le-mul-right, suc-mul, add-mul, div-lt-iff-lt-mul, le-div-iff-mul-le, lt-div-mul-add}
 use native.Mathlib.Decide.{decLt}
 use native.Mathlib.Omega.{arith}
 use lib.Dec.{ltb}
 use lib.IntN.{ℤ}
 use lib.ListN.{length, getD}
-use borrow.Author.Tests.{lt-ltb, le-ltb}
+use borrow.Author.Tests.{le-ltb}
 use Rattle.definition.specs.Planes.{sampleIn, finalIn, across, unitNumber}
 use Rattle.plane_laws.proofs.Unit.{Above, Before, Untouched}
 
@@ -107,7 +106,7 @@ module _ (W u k y0 x0 : ℕ) (h : 1 ≤ u) (at : Position W u k y0 x0) (r c : �
         let d : suc (at .j) ≤ c / u = from-div u c (suc (at .j)) h (omega (arith, at .isX, suc-mul (at .j) u)) in
         omega (arith, row-base, at .isK)
 
--- THE WALK over positions: the first unit, the next one in the row, the first of the next row; a walk that has passed the last row of units has done all
+-- THE WALK over positions: the first unit, the next one in the row, the first of the next row
 module _ (W H u : ℕ) (grid : Grid W H u) where
   across-some : 0 < across W u
   unfolding across
@@ -157,41 +156,11 @@ module _ (W H u : ℕ) (grid : Grid W H u) where
     pub in-width : x0 < W
     in-width = omega (arith, across-last W u (at .j) (grid .someU) (at .inRow), at .isX)
 
-    -- the last row of units ends the plane
-    pub all-held : H ≤ y0 → (r c : ℕ) → r < H → c < W → unitNumber W u r c < k
-    all-held l r c hr hc = held-above W u k y0 x0 (grid .someU) at r c hc (omega arith)
-
-  -- UNIT k by its number, of as many as there are
-  fours : (a : ℕ) → a * u % 4 ≡ 0
-  fours a =
-      let d : u ≡ 4 * (u / 4) = omega (arith, grid .fourU) in
-      let e : a * u ≡ 4 * (u / 4 * a) = mul-comm a u ∙ (ap (λ (n : ℕ). n * a) d ∙ mul-assoc 4 (u / 4) a) in
-      omega arith
-
-  pub unit-of : (k : ℕ) → Position W u k (k / across W u * u) (k % across W u * u)
-  unit-of k =
-      record {
-        i = k / across W u;
-        j = k % across W u;
-        isK = sym (div-add-mod' k (across W u));
-        isY = refl;
-        isX = refl;
-        inRow = mod-lt k {m = across W u} across-some;
-        fourY = fours (k / across W u);
-        fourX = fours (k % across W u);
-      }
-
-  pub unit-of-low : (k : ℕ) → k < across H u * across W u → k / across W u * u < H
-  unit-of-low k h = across-last H u (k / across W u) (grid .someU) (div-lt-iff-lt-mul {k = across W u} {x = k} {y = across H u} across-some .1 h)
-
 -- A PLANE AFTER THE FIRST k UNITS, where unit k lies at (y0, x0)
 module _ (W H u : ℕ) (grid : Grid W H u) (p0 skip : List ℕ) (filter : List ℤ) (k y0 x0 : ℕ) (at : Position W u k y0 x0)
     (p : List ℕ) (a : UnitsDone W H u k p0 skip filter p) where
   old-at : (r c : ℕ) → r < H → c < W → k ≤ unitNumber W u r c → sampleIn W p r c ≡ sampleIn W p0 r c
   old-at r c hr hc l = a .here r c hr hc ∙ rw (le-ltb (unitNumber W u r c) k l)
-
-  new-at : (r c : ℕ) → r < H → c < W → unitNumber W u r c < k → sampleIn W p r c ≡ finalIn W H p0 skip filter r c
-  new-at r c hr hc l = a .here r c hr hc ∙ rw (lt-ltb (unitNumber W u r c) k l)
 
   -- in its row of units, from its first column on; and below that row
   pub old-beside : (r c : ℕ) → r < H → c < W → y0 ≤ r → r < y0 + u → x0 ≤ c → sampleIn W p r c ≡ sampleIn W p0 r c

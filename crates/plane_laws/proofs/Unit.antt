@@ -3,7 +3,7 @@
 use mathlib.Core.Path.{_≡_, refl, sym, _∙_, ap}
 use mathlib.Core.Bool.{Bool, true, false, cond}
 use mathlib.Core.List.{List}
-use Prim.Native.Nat.{ℕ, zero, suc, _+_, _-_, _*_, _/_, _%_, _≤_, _<_, min}
+use Prim.Native.Nat.{ℕ, suc, _+_, _-_, _*_, _%_, _≤_, _<_, min}
 use native.Mathlib.Nat.{add-mul}
 use native.Mathlib.Decide.{decLt}
 use native.Mathlib.Omega.{arith}
@@ -17,7 +17,7 @@ use Rattle.definition.specs.declared.Operation.the-variants.{Luma}
 use Rattle.definition.specs.declared.Given.{Given}
 use Rattle.definition.specs.Units.{Lent, savedAbove, planeRow, ownRow, topRow, unitRow, sampleAt}
 use Rattle.laws.proofs.Ints.{sub-cases, before-pos}
-use Rattle.definition.specs.Planes.{sampleIn, paddedIn, aroundIn}
+use Rattle.definition.specs.Planes.{sampleIn, paddedIn}
 
 -- where a unit lies, and what it is opened with
 pub record Cut (W H y0 x0 b : ℕ) (g : Given) : Type 0 where

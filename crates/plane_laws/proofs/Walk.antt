@@ -1,10 +1,10 @@
--- A WALK OF UNITS over a plane: what unit k is opened with, that its result is the plane after the first k + 1 units, and that with all units done
--- the bytes do not depend on the unit size.
+-- A WALK OF UNITS over a plane: what unit k is opened with, that its result is the plane after the first k + 1 units, and that the first k units
+-- fix every byte.
 use mathlib.Core.Path.{_≡_, refl, sym, _∙_, ap}
 use mathlib.Core.Bool.{Bool, true, false, cond}
 use mathlib.Core.Logic.{_≢_}
 use mathlib.Core.List.{List}
-use Prim.Native.Nat.{ℕ, zero, suc, _+_, _-_, _*_, _/_, _%_, _≤_, _<_, min}
+use Prim.Native.Nat.{ℕ, suc, _+_, _-_, _*_, _/_, _%_, _≤_, _<_, min}
 use native.Mathlib.Nat.{mul-le-mul-right, suc-mul, add-mul, mod-lt, div-add-mod', div-lt-iff-lt-mul}
 use native.Mathlib.Decide.{decLt}
 use native.Mathlib.Omega.{arith}
@@ -233,9 +233,3 @@ module _ (W H : ℕ) (p0 skip : List ℕ) (filter : List ℤ) where
   pub one-answer : (u k : ℕ) → 1 ≤ W → (p q : List ℕ) → UnitsDone W H u k p0 skip filter p → UnitsDone W H u k p0 skip filter q → p ≡ q
   one-answer u k w p q a b =
       same-plane w p q (a .size ∙ sym (b .size)) (λ r c hr hc. a .here r c hr hc ∙ sym (b .here r c hr hc)) (λ i h. a .behind i h ∙ sym (b .behind i h))
-
-  -- EVERY UNIT SIZE gives the same bytes, and so does every number of units that is not too few
-  pub every-size : (u k v n : ℕ) → 1 ≤ W → AllHeld W H u k → AllHeld W H v n → (p q : List ℕ) → UnitsDone W H u k p0 skip filter p → UnitsDone W H v n p0 skip filter q → p ≡ q
-  every-size u k v n w hu hv p q a b =
-      same-plane w p q (a .size ∙ sym (b .size)) (λ r c hr hc. all-final u k hu p a r c hr hc ∙ sym (all-final v n hv q b r c hr hc))
-      (λ i h. a .behind i h ∙ sym (b .behind i h))

@@ -1,5 +1,5 @@
 -- `plane::restore_plane` meets its contract: the table first, then the walk.
-use mathlib.Core.Path.{_≡_, refl, sym, _∙_}
+use mathlib.Core.Path.{refl, sym, _∙_}
 use lib.ListN.{length}
 use Rattle.laws.proofs.Passes.{refused, none-answered}
 use Rattle.plane_laws.proofs.Answers.{plane-fine}

@@ -1,7 +1,9 @@
 -- `refusals::bad_sides` meets its contract: the three tests in turn.
-use mathlib.Core.Path.{sym, _∙_}
+use mathlib.Core.Path.{_≡_, sym, _∙_}
 use borrow.Author.Needs.{needs}
 use borrow.Author.Tests.{not-true, not-false}
+use Rattle.definition.specs.Limits.{unitSizeLimit}
+use Rattle.definition.specs.Refusals.{sized}
 use Rattle.refusals.proofs.bad_sides.Statement.{statement}
 use Rattle.refusals.proofs.bad_sides.Tie as tie
 
@@ -27,7 +29,8 @@ returns-3 : tie.Need-returns-3
 returns-3 c =
     let w = c .before .before .before .before .is-sized in
     let h = c .before .before .is-sized2 in
-    rw (sym (w .ensures) ∙ not-false (w .result) (c .before .before .before .if1 .left), sym (h .ensures) ∙ not-false (h .result) (c .before .if2 .left), ← c .is-sized3 .ensures)
+    let unit : c .is-sized3 .result ≡ sized unitSizeLimit (c .before .before .before .before .before .args .unit) = c .is-sized3 .ensures in
+    rw (sym (w .ensures) ∙ not-false (w .result) (c .before .before .before .if1 .left), sym (h .ensures) ∙ not-false (h .result) (c .before .if2 .left), ← unit)
 
 pub bad-sides-spec : {M : Type 1} → statement M
 bad-sides-spec = tie.close (tie.spec is-sized-requires returns is-sized-requires-2 returns-2 is-sized-requires-3 returns-3)

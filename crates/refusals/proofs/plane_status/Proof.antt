@@ -4,12 +4,11 @@ use mathlib.Core.Bool.{true, false, not, _||_}
 use Prim.Native.Nat.{_*_, _/_, _≤_}
 use native.Mathlib.Nat.{mul-le-mul}
 use native.Mathlib.Omega.{arith}
-use lib.Dec.{eqb}
+use lib.Dec.{ltb}
 use borrow.Author.Needs.{needs}
 use borrow.Author.Tests.{lt-ltb, le-ltb, eq-eqb, ne-eqb, not-false}
 use Rattle.definition.specs.Blocks.{side}
 use Rattle.definition.specs.Limits.{planeSideLimit, unitSizeLimit, scratchRows}
-use Rattle.definition.specs.Planes.{skipNumbers}
 use Rattle.definition.specs.Refusals.{sized, planeStatus}
 use Rattle.laws.proofs.Inside.{is-sized}
 use Rattle.laws.proofs.Passes.{not-both}
@@ -85,6 +84,8 @@ returns-5 : tie.Need-returns-5
 unfolding planeStatus
 returns-5 c =
     let e = c .before .before .before .before in
+    let a = e .before .before .before .before .args in
+    let short : ltb (a .scratch) (scratchRows * a .w) ≡ true = lt-ltb _ _ (c .if5 .taken) in
     rw (
       sides (e .before .before),
       le-ltb _ _ (e .before .if2 .left),
@@ -92,13 +93,15 @@ returns-5 c =
       le-ltb _ _ (c .before .before .before .if3 .left),
       ← c .before .before .set-size .ensures .0,
       eq-eqb _ _ (c .before .if4 .left),
-      lt-ltb _ _ (c .if5 .taken),
+      short,
     )
 
 returns-6 : tie.Need-returns-6
 unfolding planeStatus
 returns-6 c =
     let e = c .before .before .before .before in
+    let a = e .before .before .before .before .args in
+    let enough : ltb (a .scratch) (scratchRows * a .w) ≡ false = le-ltb _ _ (c .if5 .left) in
     rw (
       sides (e .before .before),
       le-ltb _ _ (e .before .if2 .left),
@@ -106,7 +109,7 @@ returns-6 c =
       le-ltb _ _ (c .before .before .before .if3 .left),
       ← c .before .before .set-size .ensures .0,
       eq-eqb _ _ (c .before .if4 .left),
-      le-ltb _ _ (c .if5 .left),
+      enough,
     )
 
 pub plane-status-spec : {M : Type 1} → statement M

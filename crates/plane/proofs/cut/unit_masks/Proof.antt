@@ -1,5 +1,5 @@
 -- `plane::cut::unit_masks` meets its contract: after j turns the masks of the first j block rows stand in their places.
-use mathlib.Core.Path.{_≡_, refl, sym, _∙_, ap}
+use mathlib.Core.Path.{_≡_, refl, _∙_}
 use mathlib.Core.Bool.{cond}
 use mathlib.Core.List.{List}
 use Prim.Native.Nat.{ℕ, _+_, _*_, _-_, _/_, _%_, _≤_, _<_}
@@ -9,7 +9,6 @@ use native.Mathlib.Omega.{arith}
 use lib.Dec.{ltb}
 use lib.ListN.{length, getD, length-set}
 use lib.Seq.{getD-set-same, getD-set-other}
-use borrow.Author.Needs.{needs}
 use Rattle.definition.specs.Blocks.{side}
 use Rattle.definition.specs.Limits.{planeSideLimit, unitSizeLimit}
 use Rattle.definition.specs.Planes.{maskBits, skipNumbers}

@@ -1,12 +1,12 @@
 -- `plane::walk::restore_units` meets its contract: `Reached` holds before each unit, and one unit more keeps it.
-use mathlib.Core.Path.{_≡_, refl, sym, _∙_, ap}
+use mathlib.Core.Path.{_≡_, refl}
 use mathlib.Core.List.{List}
 use Prim.Native.Nat.{ℕ, _+_, _-_, _*_, _≤_, _<_, min}
 use native.Mathlib.Nat.{mul-le-mul-right}
 use native.Mathlib.Omega.{arith}
 use lib.ListN.{length, getD}
 use borrow.Author.Needs.{needs}
-use Rattle.definition.specs.Limits.{planeSideLimit, unitSizeLimit}
+use Rattle.definition.specs.Limits.{planeSideLimit}
 use Rattle.definition.specs.Planes.{unitCount}
 use Rattle.plane_laws.proofs.Cut.{Lies}
 use Rattle.plane.proofs.Reached.{Reached, start, ended, lies, bank-low, one-more}
@@ -93,17 +93,18 @@ save-rows-requires c κs =
 
 columns-before-requires : tie.Need-columns-before-requires Inv-loop μ-loop
 columns-before-requires c κs =
-    let i = inside (c .before .before .before .before .before .before .before .before) in
-    rw (c .before .before .before .before .before .before .before .least2 .ensures, c .before .before .before .before .before .before .least3 .ensures) (
+    let i = inside (c .before .before .before .before .before .before .before .before .before) in
+    rw (c .before .before .before .before .before .before .before .before .least2 .ensures, c .before .before .before .before .before .before .before .least3 .ensures) (
       i .wide,
       i .far,
       omega (arith, i .low, i .high),
       i .short,
-      rows-in (c .before .before .before .before .before .before .before .before),
+      rows-in (c .before .before .before .before .before .before .before .before .before),
+      here (c .before .before .before .before .before .before .before .before .before) .list,
     )
 
 unit-masks-requires : tie.Need-unit-masks-requires Inv-loop μ-loop
-unit-masks-requires c κs = rw (c .before .before .before .before .before .before .before .before .least2 .ensures, c .before .before .before .before .before .before .before .least3 .ensures) (inside (c .before .before .before .before .before .before .before .before .before), c .before .before .before .before .before .before .before .before .before .before .before .before .before .before .before .before .pre .masks)
+unit-masks-requires c κs = rw (c .before .before .before .before .before .before .before .before .before .least2 .ensures, c .before .before .before .before .before .before .before .before .least3 .ensures) (inside (c .before .before .before .before .before .before .before .before .before .before), c .before .before .before .before .before .before .before .before .before .before .before .before .before .before .before .before .before .pre .masks)
 
 slice-aggregate-restore-unit : tie.Need-slice-aggregate-restore-unit Inv-loop μ-loop
 slice-aggregate-restore-unit c = search needs
@@ -112,18 +113,18 @@ slice-aggregate-restore-unit-2 : tie.Need-slice-aggregate-restore-unit-2 Inv-loo
 slice-aggregate-restore-unit-2 c = search needs
 
 restore-unit-requires : tie.Need-restore-unit-requires Inv-loop μ-loop
-restore-unit-requires c κs = rw (c .before .before .before .before .before .before .before .before .before .before .before .before .before .least2 .ensures, c .before .before .before .before .before .before .before .before .before .before .before .before .least3 .ensures) (inside (c .before .before .before .before .before .before .before .before .before .before .before .before .before .before), low-bank (c .before .before .before .before .before .before .before .before .before .before .before .before .before .before))
+restore-unit-requires c κs = rw (c .before .before .before .before .before .before .before .before .before .before .before .before .before .before .least2 .ensures, c .before .before .before .before .before .before .before .before .before .before .before .before .before .least3 .ensures) (inside (c .before .before .before .before .before .before .before .before .before .before .before .before .before .before .before), low-bank (c .before .before .before .before .before .before .before .before .before .before .before .before .before .before .before))
 
 -- ONE UNIT MORE: the calls' promises, one after another
 module _ (c : tie.After-struct-known Inv-loop μ-loop) where
   abbrev turn : tie.In-loop Inv-loop μ-loop
-  turn = c .before .before .before .before .before .before .before .before .before .before .before .before .before .before .before .before .before .before
+  turn = c .before .before .before .before .before .before .before .before .before .before .before .before .before .before .before .before .before .before .before
 
   abbrev begun : tie.Start Inv-loop μ-loop
   begun = first turn
 
   abbrev kept : List ℕ
-  kept = c .before .before .before .before .before .before .before .before .before .before .before .before .before .save-rows .last .0
+  kept = c .before .before .before .before .before .before .before .before .before .before .before .before .before .before .save-rows .last .0
 
   abbrev next : List ℕ
   next = c .before .before .before .before .before .before .before .before .before .columns-before .result
@@ -145,38 +146,38 @@ module _ (c : tie.After-struct-known Inv-loop μ-loop) where
       Reached (a .w) (a .h) (a .unit) (a .p .now) (a .skip .now) (a .filter .now) (length (a .scratch .now)) (l .k + 1) (l .y + a .unit) 0 (4 * a .w - l .bank) pieces plane kept next)
   more =
       let a = begun .args in
-      let w = c .before .before .before .before .before .before .before .before .before .before .before .before .before .before .before .before .before .least2 .ensures in
-      let h = c .before .before .before .before .before .before .before .before .before .before .before .before .before .before .before .before .least3 .ensures in
+      let w = c .before .before .before .before .before .before .before .before .before .before .before .before .before .before .before .before .before .before .least2 .ensures in
+      let h = c .before .before .before .before .before .before .before .before .before .before .before .before .before .before .before .before .before .least3 .ensures in
       one-more (a .w) (a .h) (a .unit) (a .p .now) (a .skip .now) (a .filter .now) (length (a .scratch .now)) (begun .pre) _ _ _ _ _ _ _ _ (here turn) (few turn) small
       kept next (c .before .before .before .before .before .before .before .before .unit-masks .result) plane (c .before .before .before .restore-unit .result)
-      (rw h at (c .before .before .before .before .before .before .before .before .before .before .before .before .before .save-rows .ensures)) (rw (w, h) at (c .before .before .before .before .before .before .before .before .before .columns-before .ensures)) (rw (w, h) at (c .before .before .before .before .before .before .before .before .unit-masks .ensures)) (rw (w, h) at (c .before .before .before .restore-unit .ensures))
+      (rw h at (c .before .before .before .before .before .before .before .before .before .before .before .before .before .before .save-rows .ensures)) (rw (w, h) at (c .before .before .before .before .before .before .before .before .before .columns-before .ensures)) (rw (w, h) at (c .before .before .before .before .before .before .before .before .unit-masks .ensures)) (rw (w, h) at (c .before .before .before .restore-unit .ensures))
 
 add-pieces : tie.Need-add-pieces Inv-loop μ-loop
 add-pieces c = record { fits = omega (arith, more c .0) }
 
 add-k : tie.Need-add-k Inv-loop μ-loop
-add-k c = record { fits = omega (arith, (c .before .before .before .before .before .before .before .before .before .before .before .before .before .before .before .before .before .before) .loop-test .taken, c .before .before .before .before .before .before .before .before .before .before .before .before .before .before .before .before .before .before .before .before .least .ensures, c .before .before .before .before .before .before .before .before .before .before .before .before .before .before .before .before .before .before .before .before .before .before .before .before .before .fits .count) }
+add-k c = record { fits = omega (arith, (c .before .before .before .before .before .before .before .before .before .before .before .before .before .before .before .before .before .before .before) .loop-test .taken, c .before .before .before .before .before .before .before .before .before .before .before .before .before .before .before .before .before .before .before .before .before .least .ensures, c .before .before .before .before .before .before .before .before .before .before .before .before .before .before .before .before .before .before .before .before .before .before .before .before .before .before .fits .count) }
 
 add-if1 : tie.Need-add-if1 Inv-loop μ-loop
-add-if1 c = let i = inside (c .before .before .before .before .before .before .before .before .before .before .before .before .before .before .before .before .before .before) in record { fits = omega (arith, i .far, i .wide, c .before .before .before .before .before .before .before .before .before .before .before .before .before .before .before .before .before .before .before .before .before .before .before .before .before .pre .unit) }
+add-if1 c = let i = inside (c .before .before .before .before .before .before .before .before .before .before .before .before .before .before .before .before .before .before .before) in record { fits = omega (arith, i .far, i .wide, c .before .before .before .before .before .before .before .before .before .before .before .before .before .before .before .before .before .before .before .before .before .before .before .before .before .before .pre .unit) }
 
 add-x : tie.Need-add-x Inv-loop μ-loop
-add-x c = let i = inside (c .before .before .before .before .before .before .before .before .before .before .before .before .before .before .before .before .before .before .before) in record { fits = omega (arith, i .far, i .wide, c .before .before .before .before .before .before .before .before .before .before .before .before .before .before .before .before .before .before .before .before .before .before .before .before .before .before .pre .unit) }
+add-x c = let i = inside (c .before .before .before .before .before .before .before .before .before .before .before .before .before .before .before .before .before .before .before .before) in record { fits = omega (arith, i .far, i .wide, c .before .before .before .before .before .before .before .before .before .before .before .before .before .before .before .before .before .before .before .before .before .before .before .before .before .before .before .pre .unit) }
 
 loop-less : tie.Need-loop-less Inv-loop μ-loop
-loop-less c = omega (arith, (c .before .before .before .before .before .before .before .before .before .before .before .before .before .before .before .before .before .before .before) .loop-test .taken)
+loop-less c = omega (arith, (c .before .before .before .before .before .before .before .before .before .before .before .before .before .before .before .before .before .before .before .before) .loop-test .taken)
 
 loop-again : tie.Need-loop-again Inv-loop μ-loop
-loop-again c = (omega (arith, (c .before .before .before .before .before .before .before .before .before .before .before .before .before .before .before .before .before .before .before) .loop-test .taken), more (c .before) .1 (c .if1 .taken))
+loop-again c = (omega (arith, (c .before .before .before .before .before .before .before .before .before .before .before .before .before .before .before .before .before .before .before .before) .loop-test .taken), more (c .before) .1 (c .if1 .taken))
 
 add-y : tie.Need-add-y Inv-loop μ-loop
-add-y c = let i = inside (c .before .before .before .before .before .before .before .before .before .before .before .before .before .before .before .before .before .before .before) in record { fits = omega (arith, i .low, i .high, c .before .before .before .before .before .before .before .before .before .before .before .before .before .before .before .before .before .before .before .before .before .before .before .before .before .before .pre .unit) }
+add-y c = let i = inside (c .before .before .before .before .before .before .before .before .before .before .before .before .before .before .before .before .before .before .before .before) in record { fits = omega (arith, i .low, i .high, c .before .before .before .before .before .before .before .before .before .before .before .before .before .before .before .before .before .before .before .before .before .before .before .before .before .before .before .pre .unit) }
 
 loop-less-2 : tie.Need-loop-less-2 Inv-loop μ-loop
-loop-less-2 c = omega (arith, (c .before .before .before .before .before .before .before .before .before .before .before .before .before .before .before .before .before .before .before) .loop-test .taken)
+loop-less-2 c = omega (arith, (c .before .before .before .before .before .before .before .before .before .before .before .before .before .before .before .before .before .before .before .before) .loop-test .taken)
 
 loop-again-2 : tie.Need-loop-again-2 Inv-loop μ-loop
-loop-again-2 c = (omega (arith, (c .before .before .before .before .before .before .before .before .before .before .before .before .before .before .before .before .before .before .before) .loop-test .taken), more (c .before) .2 (c .if1 .left))
+loop-again-2 c = (omega (arith, (c .before .before .before .before .before .before .before .before .before .before .before .before .before .before .before .before .before .before .before .before) .loop-test .taken), more (c .before) .2 (c .if1 .left))
 
 same-length : tie.Need-same-length Inv-loop μ-loop
 same-length c = c .before .loop .inv .1 .done .size
