@@ -249,8 +249,21 @@ module _ (W H u : ℕ) (p0 skip : List ℕ) (filter : List ℤ) (size : ℕ) (fi
             list = listed .0;
           }
 
-      pub one-more :
-          (pieces + r .pieces ≤ planeSideLimit * planeSideLimit) ×
-          (x + u < W → Reached W H u p0 skip filter size (k + 1) y (x + u) bank (pieces + r .pieces) q s′ next) ×
-          (W ≤ x + u → Reached W H u p0 skip filter size (k + 1) (y + u) 0 (4 * W - bank) (pieces + r .pieces) q s′ next)
-      one-more = (pieces-low, next-reached, row-reached)
+    -- all of it, by a width and a height that were worked out
+    pub one-more : (small : (n : ℕ) → getD skip n 0 < 65536) (w h : ℕ) → w ≡ min u (W - x) → h ≡ min u (H - y) → (s′ next masks q : List ℕ) (r : Restored) →
+        s′ ≡ cond (eqb x 0) (sets s (4 * W - bank) (tab (4 * W) (λ j. getD p ((y + h - 4) * W + j) 0))) s →
+        (length next ≡ 6 * unitSizeLimit) × (4 ≤ x + w → Before W y (x + w) h p next) →
+        (length masks ≡ unitSizeLimit) × ((j : ℕ) → j < h / side → getD masks (4 * j) 0 ≡ unitMask W skip (w / side) (y / side + j) (x / side)) →
+        Whole Luma r (unitGiven W H y x w h bank) (lumaLent left s′ [] filter masks) p q →
+        (pieces + r .pieces ≤ planeSideLimit * planeSideLimit) ×
+        (x + u < W → Reached W H u p0 skip filter size (k + 1) y (x + u) bank (pieces + r .pieces) q s′ next) ×
+        (W ≤ x + u → Reached W H u p0 skip filter size (k + 1) (y + u) 0 (4 * W - bank) (pieces + r .pieces) q s′ next)
+    one-more small w h ew eh s′ next masks q r saved listed gathered whole =
+        let sv = rw eh at saved in
+        let li = rw (ew, eh) at listed in
+        let ga = rw (ew, eh) at gathered in
+        let wh = rw (ew, eh) at whole in (
+          pieces-low small s′ next masks q r sv li ga wh,
+          next-reached small s′ next masks q r sv li ga wh,
+          row-reached small s′ next masks q r sv li ga wh,
+        )

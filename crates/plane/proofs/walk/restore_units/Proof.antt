@@ -9,6 +9,7 @@ use borrow.Author.Needs.{needs}
 use Rattle.definition.specs.Limits.{planeSideLimit}
 use Rattle.definition.specs.Planes.{unitCount}
 use Rattle.plane_laws.proofs.Cut.{Lies}
+use Rattle.plane_laws.proofs.Unit.{Before}
 use Rattle.plane.proofs.Reached.{Reached, start, ended, lies, bank-low, one-more}
 use Rattle.plane.proofs.walk.restore_units.Statement.{statement}
 use Rattle.plane.proofs.walk.restore_units.Tie as tie
@@ -94,9 +95,9 @@ save-rows-requires c κs =
 columns-before-requires : tie.Need-columns-before-requires Inv-loop μ-loop
 columns-before-requires c κs =
     let i = inside (c .before .before .before .before .before .before .before .before .before) in
-    rw (c .before .before .before .before .before .before .before .before .least2 .ensures, c .before .before .before .before .before .before .before .least3 .ensures) (
+    rw (c .before .before .before .before .before .before .before .least3 .ensures) (
       i .wide,
-      i .far,
+      omega (arith, c .before .before .before .before .before .before .before .before .least2 .ensures, i .far),
       omega (arith, i .low, i .high),
       i .short,
       rows-in (c .before .before .before .before .before .before .before .before .before),
@@ -138,6 +139,11 @@ module _ (c : tie.After-struct-known Inv-loop μ-loop) where
   small : (n : ℕ) → getD (begun .args .skip .now) n 0 < 65536
   small n = omega (arith, turn .before .before .before .before .before .shared-slice-known .given n)
 
+  -- the columns that are listed stand before the next unit
+  listed : 4 ≤ turn .before .loop .x + c .before .before .before .before .before .before .before .before .before .before .before .before .before .before .before .before .before .before .least2 .result →
+      Before (begun .args .w) (turn .before .loop .y) (turn .before .loop .x + c .before .before .before .before .before .before .before .before .before .before .before .before .before .before .before .before .before .before .least2 .result) (c .before .before .before .before .before .before .before .before .before .before .before .before .before .before .before .before .before .least3 .result) (turn .before .loop .p) next
+  listed = c .before .before .before .before .before .before .before .before .before .columns-before .ensures .1
+
   more : let a = begun .args in let l = turn .before .loop in
       (pieces ≤ planeSideLimit * planeSideLimit) ×
       (l .x + a .unit < a .w →
@@ -146,11 +152,10 @@ module _ (c : tie.After-struct-known Inv-loop μ-loop) where
       Reached (a .w) (a .h) (a .unit) (a .p .now) (a .skip .now) (a .filter .now) (length (a .scratch .now)) (l .k + 1) (l .y + a .unit) 0 (4 * a .w - l .bank) pieces plane kept next)
   more =
       let a = begun .args in
-      let w = c .before .before .before .before .before .before .before .before .before .before .before .before .before .before .before .before .before .before .least2 .ensures in
-      let h = c .before .before .before .before .before .before .before .before .before .before .before .before .before .before .before .before .before .least3 .ensures in
       one-more (a .w) (a .h) (a .unit) (a .p .now) (a .skip .now) (a .filter .now) (length (a .scratch .now)) (begun .pre) _ _ _ _ _ _ _ _ (here turn) (few turn) small
+      (c .before .before .before .before .before .before .before .before .before .before .before .before .before .before .before .before .before .before .least2 .result) (c .before .before .before .before .before .before .before .before .before .before .before .before .before .before .before .before .before .least3 .result) (c .before .before .before .before .before .before .before .before .before .before .before .before .before .before .before .before .before .before .least2 .ensures) (c .before .before .before .before .before .before .before .before .before .before .before .before .before .before .before .before .before .least3 .ensures)
       kept next (c .before .before .before .before .before .before .before .before .unit-masks .result) plane (c .before .before .before .restore-unit .result)
-      (rw h at (c .before .before .before .before .before .before .before .before .before .before .before .before .before .before .save-rows .ensures)) (rw (w, h) at (c .before .before .before .before .before .before .before .before .before .columns-before .ensures)) (rw (w, h) at (c .before .before .before .before .before .before .before .before .unit-masks .ensures)) (rw (w, h) at (c .before .before .before .restore-unit .ensures))
+      (c .before .before .before .before .before .before .before .before .before .before .before .before .before .before .save-rows .ensures) (c .before .before .before .before .before .before .before .before .before .columns-before .ensures .0, listed) (c .before .before .before .before .before .before .before .before .unit-masks .ensures) (c .before .before .before .restore-unit .ensures)
 
 add-pieces : tie.Need-add-pieces Inv-loop μ-loop
 add-pieces c = record { fits = omega (arith, more c .0) }
