@@ -183,7 +183,7 @@ ABOVE = ('samples laws model vectors intops bounds operations blocks history car
 NEAREST = {'Card': 'card_reader card_answer', 'Refusals': 'model operations refusals', 'ClassIndex': 'qval class_index features model', 'Sample': 'model vectors filter',
            'Padding': 'model operations padding', 'Blocks': 'blocks vectors', 'Units': 'model vectors', 'Rows': 'blocks features padding', 'Numbers': 'intops qval',
            'Leaves': 'blocks qval features class_index padding filter', 'Calls': 'card_answer units', 'Limits': 'bounds refusals',
-           'Planes': 'plane_laws vectors'}
+           'Planes': 'plane_laws vectors plane'}
 RULE = re.compile(r'[()]|"(?:\\.|[^"\\])*"|[^\s();]+|;')
 TURNED = {'ltb': ['leb'], 'leb': ['ltb'], '+': ['-'], '-': ['+'], '*': ['+'], '/': ['%'], '%': ['/'], '+ℤ': ['-ℤ'], '-ℤ': ['+ℤ'], '*ℤ': ['+ℤ'],
           '&&': ['||'], '||': ['&&'], 'min': ['max'], 'true': ['false'], 'false': ['true'], 'not': [''], 'pos': ['negsuc'], 'negsuc': ['pos']}

@@ -147,23 +147,6 @@ idle : (c : Call) (s : State) (p : List ℕ) → statusOf c s p ≡ 0 → (eqb (
 unfolding piecesOf
 idle c s p z e = rw (served c s p z, none-left (c .count) (s .given .h) (s .done) e)
 
-pub demand-1 : Demand1
-demand-1 =
-    record {
-      opens = λ op r n l p b. (b .status, λ h. b .state ∙ zeros-state (openStatus op n l p) _ h);
-      refuses = λ c s p q r a h. let b : Answered r q _ = rw (unchanged c s p h) at a in (b .status, b .pieces, b .state, b .plane);
-      works = works;
-      idles = λ c s p q r a z e. let b : Answered r q _ = rw (idle c s p z e) at a in (b .status, b .pieces, b .state, b .plane);
-      whole = λ op r n l p q w. (w .status, w .none);
-      numbers = table-most;
-      stateNumbers = state-most;
-    }
-
-masks : (op : Operation) (n : Given) (l : Lent) (p : List ℕ) (y x : ℕ) → masked (maskAt (l .skip) y) (x / side) ≡ true →
-    finalSample n l p op y x ≡ getD p (n .off + y * n .stride + x) 0
-unfolding finalSample
-masks op n l p y x m = rw m
-
 -- A WHOLE PLANE
 module _ (r : Restored) (w h u count : ℕ) (filter : List ℤ) (skip s s′ p q : List ℕ) (a : PlaneRestored r w h u count filter skip s s′ p q) where
   plane-refused : r .status ≢ 0 → (r .pieces ≡ 0) × (q ≡ p) × (s′ ≡ s)
@@ -188,8 +171,26 @@ module _ (r : Restored) (w h u count : ℕ) (filter : List ℤ) (skip s s′ p q
   plane-all : r .status ≡ 0 → unitCount w h u ≤ count → q ≡ planeRestored w h p skip filter
   plane-all z l = let f = is-fine z in is-planeAfter z ∙ all-restored w h p skip filter (f .grid .someW) (f .room) u count (all-counted w h u count (f .grid .someU) l)
 
-  whole-plane : WholePlane r w h u count filter skip s s′ p q
-  whole-plane = record { refused = plane-refused; here = λ z. units-done z .here; behind = plane-behind; everySize = plane-all }
+  whole-plane : WholePlane r w h u count filter skip p q
+  whole-plane = record { here = λ z. units-done z .here; behind = plane-behind; everySize = plane-all }
+
+pub demand-1 : Demand1
+demand-1 =
+    record {
+      opens = λ op r n l p b. (b .status, λ h. b .state ∙ zeros-state (openStatus op n l p) _ h);
+      refuses = λ c s p q r a h. let b : Answered r q _ = rw (unchanged c s p h) at a in (b .status, b .pieces, b .state, b .plane);
+      works = works;
+      idles = λ c s p q r a z e. let b : Answered r q _ = rw (idle c s p z e) at a in (b .status, b .pieces, b .state, b .plane);
+      whole = λ op r n l p q w. (w .status, w .none);
+      planes = λ r w h u count filter skip s s′ p q a. (a .status, plane-refused r w h u count filter skip s s′ p q a);
+      numbers = table-most;
+      stateNumbers = state-most;
+    }
+
+masks : (op : Operation) (n : Given) (l : Lent) (p : List ℕ) (y x : ℕ) → masked (maskAt (l .skip) y) (x / side) ≡ true →
+    finalSample n l p op y x ≡ getD p (n .off + y * n .stride + x) 0
+unfolding finalSample
+masks op n l p y x m = rw m
 
 pub demand-2 : Demand2
 demand-2 =

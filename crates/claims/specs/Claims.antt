@@ -19,7 +19,7 @@ use Rattle.definition.specs.Blocks.{side, maskAt, masked, piecesOf}
 use Rattle.definition.specs.Units.{Lent, finalSample}
 use Rattle.definition.specs.Planes.{sampleIn, finalIn, unitCount, unitNumber, planeRestored}
 use Rattle.definition.specs.Calls.{Call}
-use Rattle.definition.specs.Refusals.{openStatus}
+use Rattle.definition.specs.Refusals.{openStatus, planeStatus}
 use Rattle.units.specs.declared.State.{State}
 use Rattle.units.specs.declared.Opened.{Opened}
 use Rattle.units.specs.declared.Advanced.{Advanced}
@@ -39,9 +39,8 @@ pub record Works (n : ℕ) (c : Call) (s : State) (p q : List ℕ) (r : Advanced
   pub size : length q ≡ length p
   pub other : (i : ℕ) → ((y x : ℕ) → s .done ≤ y → y < s .done + n → x < s .given .w → i ≢ s .given .off + y * s .given .stride + x) → getD q i 0 ≡ getD p i 0
 
--- a whole plane: a refused call changes nothing; else the samples of its first units are the definition's over the plane as it was, and no other byte changes
-pub record WholePlane (r : Restored) (w h u count : ℕ) (filter : List ℤ) (skip s s′ p q : List ℕ) : Type 0 where
-  pub refused : r .status ≢ 0 → (r .pieces ≡ 0) × (q ≡ p) × (s′ ≡ s)
+-- a whole plane: the samples of its first units are the definition's over the plane as it was, and no other byte changes
+pub record WholePlane (r : Restored) (w h u count : ℕ) (filter : List ℤ) (skip p q : List ℕ) : Type 0 where
   pub here : r .status ≡ 0 → (y x : ℕ) → y < h → x < w →
       sampleIn w q y x ≡ cond (ltb (unitNumber w u y x) count) (finalIn w h p skip filter y x) (sampleIn w p y x)
   pub behind : (i : ℕ) → h * w ≤ i → getD q i 0 ≡ getD p i 0
@@ -64,6 +63,9 @@ pub record Demand1 : Type 0 where
   -- the whole unit
   pub whole : (op : Operation) (r : Restored) (n : Given) (l : Lent) (p q : List ℕ) → Whole op r n l p q →
       (r .status ≡ openStatus op n l p) × (openStatus op n l p ≢ 0 → (r .pieces ≡ 0) × (q ≡ p))
+  -- a whole plane: scratch stays too
+  pub planes : (r : Restored) (w h u count : ℕ) (filter : List ℤ) (skip s s′ p q : List ℕ) → PlaneRestored r w h u count filter skip s s′ p q →
+      (r .status ≡ planeStatus w h u (length p) (length skip) (length filter) (length s)) × (r .status ≢ 0 → (r .pieces ≡ 0) × (q ≡ p) × (s′ ≡ s))
   -- no number but the table's: 1 to 11, and in an advance 13
   pub numbers : (op : Operation) (n : Given) (l : Lent) (p : List ℕ) → openStatus op n l p ≤ 11
   pub stateNumbers : (c : Call) (s : State) (p : List ℕ) → statusOf c s p ≢ 13 → statusOf c s p ≤ 11
@@ -75,7 +77,7 @@ pub record Demand2 : Type 0 where
   pub masks : (op : Operation) (n : Given) (l : Lent) (p : List ℕ) (y x : ℕ) → masked (maskAt (l .skip) y) (x / side) ≡ true →
       finalSample n l p op y x ≡ getD p (n .off + y * n .stride + x) 0
   pub planes : (r : Restored) (w h u count : ℕ) (filter : List ℤ) (skip s s′ p q : List ℕ) → PlaneRestored r w h u count filter skip s s′ p q →
-      WholePlane r w h u count filter skip s s′ p q
+      WholePlane r w h u count filter skip p q
 
 -- DEMAND 3: a unit that was opened, and any history of it. After the history finished rows hold their final samples or what was written over them, and all else is as at the opening.
 abbrev pub Demand3 : Type 0
