@@ -2,11 +2,14 @@
 
 use std::ops::Range;
 
-use gihvendu::edges::{BOTTOM_INTEGRATED, LEFT, RIGHT, TOP_INTEGRATED};
+#[cfg(feature = "linked")]
 use gihvendu::raw::{self, Restored};
 
 use crate::exec_context::ExecContext;
-use crate::looprestoration::ns_wiener_single_y_8bpc;
+use crate::looprestoration::{
+    LR_HAVE_BOTTOM_INTEGRATED, LR_HAVE_LEFT, LR_HAVE_RIGHT, LR_HAVE_TOP_INTEGRATED,
+    ns_wiener_single_y_8bpc,
+};
 
 /// What no left bit calls for: the Rust indexes it.
 const UNREAD: u8 = 171;
@@ -16,7 +19,7 @@ pub(crate) struct Part {
     off: usize,
     w: usize,
     h: usize,
-    edges: usize,
+    edges: u8,
     /// the same column four rows above; 0 where there are none
     top_off: usize,
     /// its first left list
@@ -62,11 +65,11 @@ impl Cut {
     }
 
     fn add(&mut self, (x, y): (usize, usize), (w, h): (usize, usize), rows: usize, skip: &[u16]) {
-        let bit = |bit: usize, there: bool| if there { bit } else { 0 };
-        let edges = bit(LEFT, x > 0)
-            | bit(RIGHT, x + w < self.stride)
-            | bit(TOP_INTEGRATED, y > 0)
-            | bit(BOTTOM_INTEGRATED, y + h < rows);
+        let bit = |bit: u8, there: bool| if there { bit } else { 0 };
+        let edges = bit(LR_HAVE_LEFT, x > 0)
+            | bit(LR_HAVE_RIGHT, x + w < self.stride)
+            | bit(LR_HAVE_TOP_INTEGRATED, y > 0)
+            | bit(LR_HAVE_BOTTOM_INTEGRATED, y + h < rows);
         let off = y * self.stride + x;
         self.units.push(Part {
             off,
@@ -106,12 +109,13 @@ impl Cut {
             unit.w,
             unit.h,
             &self.filter,
-            unit.edges as u8,
+            unit.edges,
             &self.masks[unit.masks..],
         );
     }
 
     /// The same by the port's function of a whole unit.
+    #[cfg(feature = "linked")]
     pub fn by_port(&self, unit: &Part, plane: &mut [u8]) -> Restored {
         raw::gihvendu_ns_wiener_single_y_8bpc(
             plane,
@@ -125,7 +129,7 @@ impl Cut {
             unit.w,
             unit.h,
             &self.filter,
-            unit.edges,
+            usize::from(unit.edges),
             self.masks[unit.masks..].as_flattened(),
         )
     }
@@ -142,6 +146,23 @@ impl Cut {
         let masks = &self.masks[unit.masks..][..unit.h / 4];
         let clear = |mask: &[u16; 4]| (!u32::from(mask[0]) & blocks).count_ones() as usize;
         4 * masks.iter().map(clear).sum::<usize>()
+    }
+
+    /// The plane after its first `count` units, each restored by the Rust over the untouched plane, and their pieces.
+    pub fn restored(&self, exec: &ExecContext, count: usize) -> (Vec<u8>, usize) {
+        let (mut plane, mut restored) = (self.untouched.clone(), self.untouched.clone());
+        let mut pieces = 0;
+        for unit in self.units.iter().take(count) {
+            self.by_rust(exec, unit, &mut plane);
+            for row in self.rows(unit) {
+                restored[row.clone()].copy_from_slice(&plane[row.clone()]);
+                plane[row.clone()].copy_from_slice(&self.untouched[row]);
+            }
+            pieces += self.pieces(unit);
+        }
+        // The rectangles were put back: the Rust has to have left all else.
+        assert!(plane == self.untouched, "the Rust writes its unit alone");
+        (restored, pieces)
     }
 }
 

@@ -17,7 +17,8 @@
 //!
 //!     compare vectors SEED COUNT    prints an antt file with COUNT rounds of random units and what the Rust makes of them, to
 //!                                   be checked against the definition by computation. A round has a unit of each of the
-//!                                   four operations; where there are at most 3, a chroma unit of each pair and kind
+//!                                   four operations; where there are at most 3, a chroma unit of each pair and kind, and
+//!                                   luma planes that the Rust restored unit by unit stand behind them
 //!     compare cards SEED FOLDER     writes a corpus of cards, their lengths and the answers expected (cards, lengths, stdout)
 //!     compare replay                prints what the Rust makes of the units of the Rattle program replay
 //!     compare traps                 prints what the Rust makes of the units of the Rattle program traps
@@ -47,7 +48,6 @@ mod bench_units;
 #[cfg(feature = "linked")]
 mod calls;
 mod cards;
-#[cfg(feature = "linked")]
 mod cuts;
 #[cfg(feature = "linked")]
 mod differences;
@@ -59,6 +59,7 @@ mod grid;
 mod leaves;
 #[cfg(feature = "linked")]
 mod plane_refusals;
+mod plane_vectors;
 #[cfg(feature = "linked")]
 mod planes;
 mod random;

@@ -203,16 +203,7 @@ impl Readings {
     pub fn new(exec: &ExecContext, c: &Call) -> Readings {
         let filter = *c.filter.as_array().expect("16 numbers");
         let cut = Cut::new(&c.plane, (c.w, c.h), c.unit, filter, &c.skip);
-        let (mut untouched, mut by_rust) = (c.plane.clone(), c.plane.clone());
-        for unit in &cut.units {
-            cut.by_rust(exec, unit, &mut untouched);
-            for row in cut.rows(unit) {
-                by_rust[row.clone()].copy_from_slice(&untouched[row.clone()]);
-                untouched[row.clone()].copy_from_slice(&c.plane[row]);
-            }
-        }
-        // The rectangles were put back: the Rust has to have left all else.
-        assert!(untouched == c.plane, "the Rust writes its unit alone");
+        let (by_rust, _) = cut.restored(exec, usize::MAX);
         let samples = (0..c.w * c.h).map(|i| rule(c, i / c.w, i % c.w));
         Readings {
             cut,

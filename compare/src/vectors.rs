@@ -1,8 +1,9 @@
-//! Units and what the Rust makes of them, as an antt file that compares them with the definition by computation.
+//! Units and planes and what the Rust makes of them, as an antt file that compares them with the definition by computation.
 
 use std::fmt::Write;
 use std::ops::Range;
 
+use crate::plane_vectors;
 use crate::random::Random;
 use crate::units::{OPERATIONS, Operation, Spacing, Unit};
 
@@ -12,7 +13,7 @@ use mathlib.Core.List.{List, [], _∷_}
 use mathlib.Core.Path.{_≡_, refl}
 use Prim.Native.Nat.{ℕ, zero, suc, _+_, _*_, _/_, _%_}
 use lib.Dec.{eqb}
-use lib.IntN.{pos, negsuc}
+use lib.IntN.{ℤ, pos, negsuc}
 use Rattle.definition.specs.declared.Operation.{Operation}
 use Rattle.definition.specs.declared.Operation.the-variants.{Luma, User, Pretrained, Chroma}
 use Rattle.definition.specs.declared.Given.{Given}
@@ -21,6 +22,7 @@ use Rattle.definition.specs.Rows.{tab}
 use Rattle.definition.specs.Sample.{rounded}
 use Rattle.definition.specs.ClassIndex.{term, bin, feature, skipSum, indexOf}
 use Rattle.definition.specs.Units.{Lent, sampleAt, lumaAt, classOf, finalSample}
+use Rattle.definition.specs.Planes.{paddedIn, skipBit, finalIn, across, unitNumber, planeAfter, pieceAt, planePieces}
 
 record Vector : Type 0 where
   op : Operation
@@ -56,7 +58,13 @@ const UNFOLDED: &str =
     "sumZ sumN rounded term bin feature skipSum indexOf sampleAt lumaAt classOf finalSample";
 
 /// A line `name = items;` of a record, broken into further lines where it is long.
-fn field<T>(out: &mut String, indent: &str, name: &str, items: &[T], show: impl Fn(&T) -> String) {
+pub(crate) fn field<T>(
+    out: &mut String,
+    indent: &str,
+    name: &str,
+    items: &[T],
+    show: impl Fn(&T) -> String,
+) {
     let _ = write!(out, "{indent}{name} =");
     let mut column = 0;
     for item in items {
@@ -71,7 +79,7 @@ fn field<T>(out: &mut String, indent: &str, name: &str, items: &[T], show: impl 
     let _ = writeln!(out, " [];");
 }
 
-fn integer(v: i64) -> String {
+pub(crate) fn integer(v: i64) -> String {
     if v < 0 {
         format!("negsuc {}", -(v + 1))
     } else {
@@ -257,7 +265,8 @@ fn units(seed: u64, count: usize) -> Vec<Unit> {
     units
 }
 
-/// An antt file with `count` rounds of units. Each unit has a proof of its own: antt stops one at 50 million steps.
+/// An antt file with `count` rounds of units and, where these are planned, planes behind them. Each unit and each plane has a
+/// proof of its own: antt stops one at 50 million steps.
 pub(crate) fn file(seed: u64, count: usize) -> String {
     let mut out = format!(
         "-- What the reference makes of random units, beside what the definition says: every sample of each unit's rectangle.\n\
@@ -273,6 +282,9 @@ pub(crate) fn file(seed: u64, count: usize) -> String {
              unfolding holds final same mapFrom classMap unit{k} {UNFOLDED}\n\
              unit{k}-holds = refl\n"
         );
+    }
+    if count <= FEW {
+        out += &plane_vectors::planes(seed);
     }
     out
 }
