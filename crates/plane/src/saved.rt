@@ -16,12 +16,12 @@ const LEFT_ROW: usize = 6;
 
 pub const LEFT_BYTES: usize = LEFT_ROW * UNIT_SIZE_LIMIT;
 
-// The four rows above row y, to scratch at `to`, where it is time: rows stand without gaps, so they go as one row without a border.
-pub fn save_rows(scratch: &mut [u8], to: usize, p: &[u8], w: usize, y: usize, time: bool)
+// At the first unit of a row of units, the four rows above row y go to scratch at `to`: rows stand without gaps, so they go as one row without a border.
+pub fn save_rows(scratch: &mut [u8], to: usize, p: &[u8], w: usize, y: usize, first: bool)
     requires { ⌜ (1 ≤ w) × (w ≤ planeSideLimit) × (4 ≤ y) × (y ≤ planeSideLimit) × (y * w ≤ length (now p)) × (to + 4 * w ≤ length (now scratch)) ⌝ }
-    ensures { λ _. ⌜ now (scratch .exit) ≡ cond time (sets (now (scratch .entry)) to (tab (4 * w) (λ j. getD (now (p .entry)) ((y - 4) * w + j) 0))) (now (scratch .entry)) ⌝ }
+    ensures { λ _. ⌜ now (scratch .exit) ≡ cond first (sets (now (scratch .entry)) to (tab (4 * w) (λ j. getD (now (p .entry)) ((y - 4) * w + j) 0))) (now (scratch .entry)) ⌝ }
 {
-    if time {
+    if first {
         padding::backup_row_lpf_8bpc(scratch, to, p, (y - BORDER) * w, BORDER * w, 0, 0);
     }
 }
