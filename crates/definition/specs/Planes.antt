@@ -40,7 +40,7 @@ unfoldable pub finalIn : ℕ → ℕ → List ℕ → List ℕ → List ℤ → 
 finalIn w h plane skip filter y x =
     cond (skipBit w skip (y / side) (x / side)) (sampleIn w plane y x) (lumaSample limit8 (aroundIn w h plane y x) (setOf Luma filter 0))
 
--- THE UNITS, u by u, smaller at the right and below: so many side by side, and so many in all; row by row from the top left, number n holds (r, c)
+-- THE UNITS, u by u, smaller at the right and below: so many side by side, so many in all, and the number of the one that holds (r, c), row by row from the top left
 unfoldable pub across : ℕ → ℕ → ℕ
 across w u = (w + u - 1) / u
 
