@@ -2,31 +2,24 @@
 use mathlib.Core.Path.{_≡_, sym, _∙_, ap}
 use mathlib.Core.Bool.{cond}
 use mathlib.Core.List.{List}
-use Prim.Native.Nat.{ℕ, zero, suc, _+_, _-_, _*_, _/_, _%_, _^_, _≤_, _<_}
+use Prim.Native.Nat.{ℕ, suc, _+_, _-_, _*_, _/_, _%_, _^_, _≤_, _<_}
 use native.Mathlib.Nat.{mul-le-mul-right, suc-mul, mul-assoc, mul-comm, pow-suc, add-mul-div-left, div-div-eq-div-mul, one-le-pow}
 use native.Mathlib.Decide.{decLt}
 use native.Mathlib.Omega.{arith}
 use lib.Dec.{ltb, eqb}
 use lib.ListN.{getD}
+use lib.Pow.{pow-add}
 use borrow.Author.Tests.{lt-ltb}
 use Rattle.definition.specs.Numbers.{bitSet}
 use Rattle.definition.specs.Planes.{skipNumbers, skipBit}
 use Rattle.plane_laws.proofs.Cut.{gathered, lowNumber, highNumber, unitMask}
-
-pow-plus : (a b : ℕ) → 2 ^ (a + b) ≡ 2 ^ a * 2 ^ b
-pow-plus a zero =
-    let d : a + 0 ≡ a = omega arith in
-    rw d (omega arith)
-pow-plus a (suc b) =
-    let d : a + suc b ≡ suc (a + b) = omega arith in
-    rw (d, pow-suc 2 (a + b), pow-plus a b, pow-suc 2 b) (mul-assoc (2 ^ a) (2 ^ b) 2)
 
 -- what stands from bit 16 on does not reach a bit below
 low-bit : (a b j : ℕ) → j < 16 → (a + 65536 * b) / 2 ^ j % 2 ≡ a / 2 ^ j % 2
 low-bit a b j h =
     let n : ℕ = 15 - j in
     let d : j + suc n ≡ 16 = omega arith in
-    let e : 65536 ≡ 2 ^ j * 2 ^ suc n = ap (λ (k : ℕ). 2 ^ k) (sym d) ∙ pow-plus j (suc n) in
+    let e : 65536 ≡ 2 ^ j * 2 ^ suc n = ap (λ (k : ℕ). 2 ^ k) (sym d) ∙ pow-add 2 j (suc n) in
     let q : 65536 * b ≡ 2 ^ j * (2 ^ suc n * b) = ap (λ (m : ℕ). m * b) e ∙ mul-assoc (2 ^ j) (2 ^ suc n) b in
     let v : (a + 65536 * b) / 2 ^ j ≡ a / 2 ^ j + 2 ^ suc n * b = ap (λ (m : ℕ). (a + m) / 2 ^ j) q ∙ add-mul-div-left a (2 ^ suc n * b) {y = 2 ^ j} (one-le-pow j 2 (omega arith)) in
     let t : 2 ^ suc n * b ≡ 2 * (2 ^ n * b) = ap (λ (m : ℕ). m * b) (pow-suc 2 n ∙ mul-comm (2 ^ n) 2) ∙ mul-assoc 2 (2 ^ n) b in
@@ -36,7 +29,7 @@ low-bit a b j h =
 high-bit : (a b j : ℕ) → a < 65536 → (a + 65536 * b) / 2 ^ (16 + j) ≡ b / 2 ^ j
 high-bit a b j h =
     let d : (a + 65536 * b) / 65536 ≡ b = omega arith in
-    ap (λ (m : ℕ). (a + 65536 * b) / m) (pow-plus 16 j) ∙ (sym (div-div-eq-div-mul (a + 65536 * b) 65536 (2 ^ j)) ∙ ap (λ (m : ℕ). m / 2 ^ j) d)
+    ap (λ (m : ℕ). (a + 65536 * b) / m) (pow-add 2 16 j) ∙ (sym (div-div-eq-div-mul (a + 65536 * b) 65536 (2 ^ j)) ∙ ap (λ (m : ℕ). m / 2 ^ j) d)
 
 -- bit k of the sixteen is bit s + k of the two numbers
 cut-bit : (lo hi s k : ℕ) → k < 16 → gathered lo hi s / 2 ^ k % 2 ≡ (lo + 65536 * hi) / 2 ^ (s + k) % 2
@@ -44,7 +37,7 @@ cut-bit lo hi s k h =
     let M : ℕ = (lo + 65536 * hi) / 2 ^ s in
     let d : M ≡ M % 65536 + 65536 * (M / 65536) = omega arith in
     let e : M / 2 ^ k % 2 ≡ M % 65536 / 2 ^ k % 2 = ap (λ (m : ℕ). m / 2 ^ k % 2) d ∙ low-bit (M % 65536) (M / 65536) k h in
-    sym e ∙ ap (λ (m : ℕ). m % 2) (div-div-eq-div-mul (lo + 65536 * hi) (2 ^ s) (2 ^ k) ∙ ap (λ (m : ℕ). (lo + 65536 * hi) / m) (sym (pow-plus s k)))
+    sym e ∙ ap (λ (m : ℕ). m % 2) (div-div-eq-div-mul (lo + 65536 * hi) (2 ^ s) (2 ^ k) ∙ ap (λ (m : ℕ). (lo + 65536 * hi) / m) (sym (pow-add 2 s k)))
 
 module _ (lo hi s k : ℕ) (hk : k < 16) where
   pub gathered-low : s + k < 16 → bitSet (gathered lo hi s) k ≡ bitSet lo (s + k)
