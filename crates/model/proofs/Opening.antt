@@ -5,11 +5,12 @@ use mathlib.Core.List.{List, [], _∷_, _++_}
 use Prim.Native.Nat.{ℕ, zero, suc, _+_, _*_, _≤_, _<_, min, max}
 use native.Mathlib.Nat.{zero-add, mul-le-mul-right, suc-mul}
 use native.Mathlib.Decide.{decLt}
+use native.Mathlib.Numerals.{add-one}
 use native.Mathlib.Omega.{arith}
 use lib.Dec.{leb}
 use lib.ListN.{length, getD, replicate, length-append, List·getD-append}
 use lib.Seq.{sets, length-sets}
-use borrow.Author.Tests.{le-leb}
+use borrow.Author.Tests.{le-leb, lt-leb}
 use Rattle.definition.specs.declared.Operation.{Operation}
 use Rattle.definition.specs.declared.Operation.the-variants.{Luma, User, Pretrained, Chroma}
 use Rattle.definition.specs.declared.Given.{Given}
@@ -26,6 +27,16 @@ unfoldable pub filledRows : ℕ → ℕ → (ℕ → List ℕ) → List ℕ → 
 filledRows len first pad blank zero = blank
 filledRows len first pad blank (suc n) =
     cond (leb first n) (sets (filledRows len first pad blank n) (n * len) (pad n)) (filledRows len first pad blank n)
+
+module _ (len first : ℕ) (pad : ℕ → List ℕ) (blank : List ℕ) where
+  pub filled-none : (n : ℕ) → n ≤ first → filledRows len first pad blank n ≡ blank
+  unfolding filledRows
+  filled-none zero h = refl
+  filled-none (suc n) h = rw (lt-leb first n (omega arith)) (filled-none n (omega arith))
+
+  pub filled-more : (n : ℕ) → first ≤ n → filledRows len first pad blank (n + 1) ≡ sets (filledRows len first pad blank n) (n * len) (pad n)
+  unfolding filledRows
+  filled-more n h = rw (add-one n, le-leb first n h)
 
 -- m rows of them, and indices that lead to each row's own slot, or to that of the first row that is padded anew
 abbrev pub openedRing : ℕ → ℕ → ℕ → (ℕ → List ℕ) → List ℕ → List ℕ → Ring

@@ -3,12 +3,10 @@ use mathlib.Core.Path.{_≡_, refl, sym, _∙_, ap}
 use mathlib.Core.List.{List, [], _∷_, _++_}
 use Prim.Native.Nat.{ℕ, zero, suc, _+_, _*_, _-_, _≤_}
 use native.Mathlib.Nat.{zero-add, suc-add}
-use native.Mathlib.Numerals.{add-one}
 use native.Mathlib.Omega.{arith}
 use lib.ListN.{length, set, take, drop, replicate, length-set, length-drop, length-replicate, take-append-drop}
 use lib.Seq.{sets, set-append-left, take-set-le, take-set-lt, drop-set-lt, drop-set-add, length-take-le}
-use borrow.Author.Tests.{le-leb, lt-leb}
-use Rattle.model.proofs.Opening.{filledRows}
+use Rattle.model.proofs.Opening.{filledRows, filled-none, filled-more}
 
 -- STORES IN a ++ b
 set-second-at : (a b : List ℕ) (i v : ℕ) → set (a ++ b) (length a + i) v ≡ a ++ set b i v
@@ -56,23 +54,14 @@ front-size rows n m e h =
     length-take-le n rows (omega arith)
 
 module _ (len first : ℕ) (pad : ℕ → List ℕ) (rows blank : List ℕ) (at : ℕ) where
-  filled-none : (n : ℕ) → n ≤ first → filledRows len first pad blank n ≡ blank
-  unfolding filledRows
-  filled-none zero h = refl
-  filled-none (suc n) h = rw (lt-leb first n (omega arith)) (filled-none n (omega arith))
-
-  filled-more : (n : ℕ) → first ≤ n → filledRows len first pad blank (n + 1) ≡ sets (filledRows len first pad blank n) (n * len) (pad n)
-  unfolding filledRows
-  filled-more n h = rw (add-one n, le-leb first n h)
-
   -- before the first row that is padded anew, and one row more
   pub behind-none : (n : ℕ) → drop at rows ≡ blank → n ≤ first → rows ≡ take at rows ++ filledRows len first pad blank n
-  behind-none n e h = sym (take-append-drop at rows) ∙ ap (λ (r : List ℕ). take at rows ++ r) (e ∙ sym (filled-none n h))
+  behind-none n e h = sym (take-append-drop at rows) ∙ ap (λ (r : List ℕ). take at rows ++ r) (e ∙ sym (filled-none len first pad blank n h))
 
-  pub behind-more : (n : ℕ) {now next row : List ℕ} → length (take at rows) ≡ at → first ≤ n → now ≡ take at rows ++ filledRows len first pad blank n → row ≡ pad n →
-      next ≡ sets now (at + n * len) row → next ≡ take at rows ++ filledRows len first pad blank (n + 1)
-  behind-more n size h e p q =
+  pub behind-more : (n : ℕ) {now next : List ℕ} → length (take at rows) ≡ at → first ≤ n → now ≡ take at rows ++ filledRows len first pad blank n →
+      next ≡ sets now (at + n * len) (pad n) → next ≡ take at rows ++ filledRows len first pad blank (n + 1)
+  behind-more n size h e q =
       q ∙
-      ((λ k. sets (e k) (at + n * len) (p k)) ∙
+      ((λ k. sets (e k) (at + n * len) (pad n)) ∙
       (sets-second (pad n) (take at rows) (filledRows len first pad blank n) at (n * len) size ∙
-      ap (λ (r : List ℕ). take at rows ++ r) (sym (filled-more n h))))
+      ap (λ (r : List ℕ). take at rows ++ r) (sym (filled-more len first pad blank n h))))

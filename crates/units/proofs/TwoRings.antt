@@ -44,13 +44,13 @@ both-slid j a b e h = rw add-one (pair-set (slid j a) (slid j b) 5 j (suc j) (sl
 
 -- WHAT IS FETCHED into the luma ring
 module _ (g : Given) (l : Lent) (done : ℕ) (rows idx : List ℕ) (next : ℕ) where
-  pub luma-own : {b : Bool} {row rows′ : List ℕ} → b ≡ own Chroma g (done + 4) → b ≡ true → row ≡ lumaPadRow g l (done + 4) → rows′ ≡ sets rows (lumaRowsAt + next * lumaRowBytes) row →
+  pub luma-own : {b : Bool} {rows′ : List ℕ} → b ≡ own Chroma g (done + 4) → b ≡ true → rows′ ≡ sets rows (lumaRowsAt + next * lumaRowBytes) (lumaPadRow g l (done + 4)) →
       LumaFetched g l done (ring rows idx next) (ring rows′ (set idx 9 next) next)
-  luma-own o t e s =
+  luma-own o t s =
       record {
         is =
             let u : own Chroma g (done + 4) ≡ true = sym o ∙ t in
-            rw (u, s, e);
+            rw (u, s);
       }
 
   pub luma-again : {b : Bool} → b ≡ own Chroma g (done + 4) → b ≡ false → LumaFetched g l done (ring rows idx next) (ring rows (set idx 9 (getD idx 8 0)) next)

@@ -47,8 +47,7 @@ pub fn fetch_luma_row<'a>(
     ensures { λ _. ⌜ LumaFetched g (lumaRowsLent (now (luma .entry)) (now («luma_top» .entry)) (now («luma_bottom» .entry))) done (ring (now (rows .entry)) (now (indices .entry)) next) (ring (now (rows .exit)) (now (indices .exit)) next) ⌝ }
 {
     if crate::rows::is_own(Operation::Chroma, g, done + 4) {
-        let row = crate::luma_rows::padded_luma_row(g, luma, luma_top, luma_bottom, done + 4);
-        crate::luma_rows::put_luma_row(rows, next, row);
+        crate::luma_rows::pad_luma_row(g, luma, luma_top, luma_bottom, done + 4, rows, next);
         indices[9] = next;
     } else {
         let before = indices[8];

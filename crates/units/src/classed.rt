@@ -122,8 +122,7 @@ pub fn block_row(
     ensures { λ _. ⌜ (now (rows .exit) ≡ sets (now (rows .entry)) (9 * rowBytes) (padRow op g (rowsLent (now (left .entry)) (now (top .entry)) (now (bottom .entry))) (now (plane .entry)) (done + 9))) × (now (indices .exit) ≡ set (now (indices .entry)) 9 9) ⌝ }
     ensures { λ _. ⌜ now (classes .exit) ≡ sets (now (classes .entry)) 0 (tab (g .w / side) (classAt g (classLent (now (noskip .entry)) (now (map .entry)) (now (subclass .entry)) «base_q») (ring (now (rows .exit)) (now (indices .exit)) 0) done)) ⌝ }
 {
-    let row = crate::rows::padded_row(op, g, plane, left, top, bottom, done + 9);
-    crate::rows::put_row(rows, 9, row);
+    crate::rows::pad_row(op, g, plane, left, top, bottom, done + 9, rows, 9);
     indices[9] = 9;
     classes_of_row(
         g,

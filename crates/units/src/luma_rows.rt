@@ -138,7 +138,7 @@ fn upper_luma_row<'a>(
 }
 
 // The luma row beside chroma row r - 2, padded.
-pub fn padded_luma_row<'a>(
+fn padded_luma_row<'a>(
     g: Given,
     luma: &'a [u8],
     luma_top: &'a [u8],
@@ -156,7 +156,7 @@ pub fn padded_luma_row<'a>(
 }
 
 // A luma row into its slot, behind the chroma rows.
-pub fn put_luma_row(rows: &mut [u8; STATE_BYTES], slot: usize, row: [u8; LUMA_ROW_BYTES])
+fn put_luma_row(rows: &mut [u8; STATE_BYTES], slot: usize, row: [u8; LUMA_ROW_BYTES])
     requires { ⌜ slot ≤ 4 ⌝ }
     ensures { λ _. ⌜ now (rows .exit) ≡ sets (now (rows .entry)) (lumaRowsAt + slot * lumaRowBytes) row ⌝ }
 {
@@ -166,6 +166,24 @@ pub fn put_luma_row(rows: &mut [u8; STATE_BYTES], slot: usize, row: [u8; LUMA_RO
         rows[base + j] = row[j];
         j += 1;
     }
+}
+
+// The luma row beside chroma row r - 2, padded into a slot.
+pub fn pad_luma_row<'a>(
+    g: Given,
+    luma: &'a [u8],
+    luma_top: &'a [u8],
+    luma_bottom: &'a [u8],
+    r: usize,
+    rows: &mut [u8; STATE_BYTES],
+    slot: usize,
+)
+    requires { ⌜ LumaLie g (length (now luma)) (length (now «luma_top»)) (length (now «luma_bottom»)) ⌝ }
+    requires { ⌜ (firstRow Chroma g ≤ r) × (r < g .h + 4) × (slot ≤ 4) ⌝ }
+    ensures { λ _. ⌜ now (rows .exit) ≡ sets (now (rows .entry)) (lumaRowsAt + slot * lumaRowBytes) (lumaPadRow g (lumaRowsLent (now (luma .entry)) (now («luma_top» .entry)) (now («luma_bottom» .entry))) r) ⌝ }
+{
+    let row = padded_luma_row(g, luma, luma_top, luma_bottom, r);
+    put_luma_row(rows, slot, row);
 }
 
 // The chroma rows as they are, and behind them the luma rows that an opening pads.
@@ -182,8 +200,7 @@ pub fn open_luma_rows<'a>(
 {
     let mut n = first_row(Operation::Chroma, g);
     while n < 4 {
-        let row = padded_luma_row(g, luma, luma_top, luma_bottom, n);
-        put_luma_row(rows, n, row);
+        pad_luma_row(g, luma, luma_top, luma_bottom, n, rows, n);
         n += 1;
     }
 }

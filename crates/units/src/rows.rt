@@ -6,7 +6,7 @@ ghost use lib.ListN.{length, replicate};
 ghost use lib.Seq.{sets};
 ghost use lib.IntN.{pos};
 ghost use Rattle.definition.specs.Limits.{heightLimit};
-ghost use Rattle.definition.specs.Rows.{tab, rowBytes, rowOrigin, stateBytes};
+ghost use Rattle.definition.specs.Rows.{tab, rowBytes, rowOrigin, indexCount, stateBytes};
 ghost use Rattle.definition.specs.Padding.{rowAt, after};
 ghost use Rattle.definition.specs.Units.{border};
 ghost use Rattle.definition.specs.Leaves.{backupStatus, lpfStatus, paddedRow};
@@ -127,7 +127,7 @@ fn lower_row(
 }
 
 // Row r - e of the unit, e the border, padded: from the plane with the left list, from the plane below the unit, or from a saved border.
-pub fn padded_row(
+fn padded_row(
     op: Operation,
     g: Given,
     plane: &[u8],
@@ -149,8 +149,8 @@ pub fn padded_row(
 }
 
 // A row into its slot.
-pub fn put_row(rows: &mut [u8; STATE_BYTES], slot: usize, row: [u8; ROW_BYTES])
-    requires { ⌜ slot ≤ 9 ⌝ }
+fn put_row(rows: &mut [u8; STATE_BYTES], slot: usize, row: [u8; ROW_BYTES])
+    requires { ⌜ slot < indexCount ⌝ }
     ensures { λ _. ⌜ now (rows .exit) ≡ sets (now (rows .entry)) (slot * rowBytes) row ⌝ }
 {
     let base = slot * ROW_BYTES;
@@ -159,6 +159,26 @@ pub fn put_row(rows: &mut [u8; STATE_BYTES], slot: usize, row: [u8; ROW_BYTES])
         rows[base + j] = row[j];
         j += 1;
     }
+}
+
+// Row r - e padded into a slot. A row is padded here and nowhere else: row_four.py counts them by it.
+pub fn pad_row(
+    op: Operation,
+    g: Given,
+    plane: &[u8],
+    left: &[u8],
+    top: &[u8],
+    bottom: &[u8],
+    r: usize,
+    rows: &mut [u8; STATE_BYTES],
+    slot: usize,
+)
+    requires { ⌜ RowsLie op g (length (now plane)) (length (now left)) (length (now top)) (length (now bottom)) ⌝ }
+    requires { ⌜ (firstRow op g ≤ r) × (r < g .h + border op + border op) × (slot < indexCount) ⌝ }
+    ensures { λ _. ⌜ now (rows .exit) ≡ sets (now (rows .entry)) (slot * rowBytes) (padRow op g (rowsLent (now (left .entry)) (now (top .entry)) (now (bottom .entry))) (now (plane .entry)) r) ⌝ }
+{
+    let row = padded_row(op, g, plane, left, top, bottom, r);
+    put_row(rows, slot, row);
 }
 
 // The slot after one, of n.
@@ -174,7 +194,7 @@ pub fn next_slot(slot: usize, n: usize) -> usize
 
 // Each of the first m indices takes the value of the one behind it.
 pub fn slide(indices: &mut [usize; INDEX_COUNT], m: usize)
-    requires { ⌜ m ≤ 9 ⌝ }
+    requires { ⌜ m < indexCount ⌝ }
     ensures { λ _. ⌜ now (indices .exit) ≡ slid m (now (indices .entry)) ⌝ }
 {
     let mut j = 0;
@@ -202,8 +222,7 @@ pub fn open_rows(
     let mut rows = [0u8; STATE_BYTES];
     let mut n = first_row(op, g);
     while n < m {
-        let row = padded_row(op, g, plane, left, top, bottom, n);
-        put_row(&mut rows, n, row);
+        pad_row(op, g, plane, left, top, bottom, n, &mut rows, n);
         n += 1;
     }
     rows
@@ -248,8 +267,7 @@ pub fn fetch_row(
     let e = border_of(op);
     let m = e + e;
     if is_own(op, g, done + m) {
-        let row = padded_row(op, g, plane, left, top, bottom, done + m);
-        put_row(rows, next, row);
+        pad_row(op, g, plane, left, top, bottom, done + m, rows, next);
         indices[m] = next;
         return next_slot(next, m + 1);
     }

@@ -10,14 +10,11 @@ add-is-own c = search needs
 is-own-requires : tie.Need-is-own-requires
 is-own-requires c κs = search needs
 
-add-padded-luma-row : tie.Need-add-padded-luma-row
-add-padded-luma-row c = search needs
+add-pad-luma-row : tie.Need-add-pad-luma-row
+add-pad-luma-row c = search needs
 
-padded-luma-row-requires : tie.Need-padded-luma-row-requires
-padded-luma-row-requires c κs = search needs
-
-put-luma-row-requires : tie.Need-put-luma-row-requires
-put-luma-row-requires c κs = search needs
+pad-luma-row-requires : tie.Need-pad-luma-row-requires
+pad-luma-row-requires c κs = search needs
 
 element-write-indices : tie.Need-element-write-indices
 element-write-indices c = search needs
@@ -29,7 +26,7 @@ element-write-indices-2 : tie.Need-element-write-indices-2
 element-write-indices-2 c = search needs
 
 returns : tie.Need-returns
-returns c = luma-own _ _ _ _ _ _ (c .before .before .before .before .is-own .ensures) (c .before .before .before .if1 .taken) (c .before .before .padded-luma-row .ensures) (c .put-luma-row .ensures)
+returns c = luma-own _ _ _ _ _ _ (c .before .before .before .is-own .ensures) (c .before .before .if1 .taken) (c .pad-luma-row .ensures)
 
 returns-2 : tie.Need-returns-2
 returns-2 c = luma-again _ _ _ _ _ _ (c .before .before .is-own .ensures) (c .before .if1 .left)
@@ -40,9 +37,8 @@ fetch-luma-row-spec =
     (tie.spec
     add-is-own
     is-own-requires
-    add-padded-luma-row
-    padded-luma-row-requires
-    put-luma-row-requires
+    add-pad-luma-row
+    pad-luma-row-requires
     element-write-indices
     element-copy-out-before
     element-write-indices-2

@@ -29,11 +29,8 @@ loop-holds c =
     let s = c .before .before .before .before in
     (omega arith, omega arith, behind-none _ _ _ (s .args .rows .now) (replicate (5 * lumaRowBytes) 0) lumaRowsAt (c .first-row .result) (s .pre .1) (omega arith))
 
-padded-luma-row-requires : tie.Need-padded-luma-row-requires Inv-loop μ-loop
-padded-luma-row-requires c κs = (c .before .before .before .before .before .before .pre .0, (omega arith, omega arith))
-
-put-luma-row-requires : tie.Need-put-luma-row-requires Inv-loop μ-loop
-put-luma-row-requires c κs = omega arith
+pad-luma-row-requires : tie.Need-pad-luma-row-requires Inv-loop μ-loop
+pad-luma-row-requires c κs = (c .before .before .before .before .before .before .before .pre .0, (omega arith, omega arith, omega arith))
 
 add-n : tie.Need-add-n Inv-loop μ-loop
 add-n c = omega arith
@@ -43,12 +40,12 @@ loop-less c = omega arith
 
 loop-again : tie.Need-loop-again Inv-loop μ-loop
 loop-again c =
-    let i = c .before .before .before .before .loop in
-    let s = c .before .before .before .before .before .before .before .before .before in (
+    let i = c .before .before .before .loop in
+    let s = c .before .before .before .before .before .before .before .before in (
       omega arith,
       omega arith,
       behind-more _ _ _ (s .args .rows .now) (replicate (5 * lumaRowBytes) 0) lumaRowsAt (i .n) (front-size (s .args .rows .now) lumaRowsAt (5 * lumaRowBytes) (s .pre .1) (omega arith)) (omega arith) (i .inv .2)
-          (c .before .before .padded-luma-row .ensures) (c .put-luma-row .ensures),
+          (c .pad-luma-row .ensures),
     )
 
 returns : tie.Need-returns Inv-loop μ-loop
@@ -64,8 +61,7 @@ open-luma-rows-spec =
     μ-loop
     first-row-requires
     loop-holds
-    padded-luma-row-requires
-    put-luma-row-requires
+    pad-luma-row-requires
     add-n
     loop-less
     loop-again

@@ -22,37 +22,34 @@ add-is-own c =
 is-own-requires : tie.Need-is-own-requires
 is-own-requires c κs = search needs
 
-add-padded-row : tie.Need-add-padded-row
-add-padded-row c =
+add-pad-row : tie.Need-add-pad-row
+add-pad-row c =
     let s = c .before .before .before .before .before .before .before in
     omega (arith, border-high (s .args .op), s .pre .0 .own .tall .high)
 
-padded-row-requires : tie.Need-padded-row-requires
-padded-row-requires c κs = search needs
-
-put-row-requires : tie.Need-put-row-requires
-put-row-requires c κs = omega (arith, border-high (c .before .before .before .before .before .before .before .before .before .args .op))
+pad-row-requires : tie.Need-pad-row-requires
+pad-row-requires c κs = search needs
 
 mul-indices : tie.Need-mul-indices
-mul-indices c = omega (arith, border-high (c .before .before .before .before .before .before .before .before .before .before .args .op))
+mul-indices c = omega (arith, border-high (c .before .before .before .before .before .before .before .before .before .args .op))
 
 element-write-indices : tie.Need-element-write-indices
-element-write-indices c = omega (arith, border-high (c .before .before .before .before .before .before .before .before .before .before .args .op))
+element-write-indices c = omega (arith, border-high (c .before .before .before .before .before .before .before .before .before .args .op))
 
 add-next-slot : tie.Need-add-next-slot
-add-next-slot c = omega (arith, border-high (c .before .before .before .before .before .before .before .before .before .before .args .op))
+add-next-slot c = omega (arith, border-high (c .before .before .before .before .before .before .before .before .before .args .op))
 
 next-slot-requires : tie.Need-next-slot-requires
 next-slot-requires c κs = search needs
 
 returns : tie.Need-returns
 returns c =
-    let p = c .before .before .before in
-    let t = p .before in
+    let p = c .before in
+    let t = p .before .before in
     let o = t .before in
     let b = o .before in
-    fetched-own _ _ _ _ _ _ _ _ (λ i. b .border-of .ensures .0 i + b .border-of .ensures .0 i) (o .is-own .ensures) (t .if1 .taken) (p .padded-row .ensures)
-    (c .before .put-row .ensures) (c .next-slot .ensures)
+    fetched-own _ _ _ _ _ _ _ _ (λ i. b .border-of .ensures .0 i + b .border-of .ensures .0 i) (o .is-own .ensures) (t .if1 .taken) (p .pad-row .ensures)
+    (c .next-slot .ensures)
 
 sub-before : tie.Need-sub-before
 sub-before c = omega (arith, border-low (c .before .before .before .before .before .before .before .args .op), border-high (c .before .before .before .before .before .before .before .args .op))
@@ -90,9 +87,8 @@ fetch-row-spec =
     add-m
     add-is-own
     is-own-requires
-    add-padded-row
-    padded-row-requires
-    put-row-requires
+    add-pad-row
+    pad-row-requires
     mul-indices
     element-write-indices
     add-next-slot

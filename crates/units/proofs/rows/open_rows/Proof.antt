@@ -1,16 +1,13 @@
 -- `units::rows::open_rows` meets its contract. The loop's invariant: the rows before n are filled.
 use mathlib.Core.Path.{_≡_, sym, _∙_}
-use Prim.Native.Nat.{_+_, _*_, _-_, _≤_}
+use Prim.Native.Nat.{_+_, _-_, _≤_}
 use native.Mathlib.Omega.{arith}
-use lib.Seq.{sets}
 use borrow.Author.Needs.{needs}
-use Rattle.definition.specs.Rows.{rowBytes}
 use Rattle.definition.specs.Units.{border}
 use Rattle.model.proofs.Rows.{first-low}
-use Rattle.model.proofs.Opening.{filled}
+use Rattle.model.proofs.Opening.{filled, filled-none, filled-more}
 use Rattle.units.specs.Lent.{rowsLent}
 use Rattle.operations.proofs.Borders.{border-high}
-use Rattle.units.proofs.Rings.{filled-none, filled-more}
 use Rattle.units.proofs.rows.open_rows.Statement.{statement}
 use Rattle.units.proofs.rows.open_rows.Tie as tie
 
@@ -31,32 +28,32 @@ first-row-requires : tie.Need-first-row-requires Inv-loop μ-loop
 first-row-requires c κs = search needs
 
 loop-holds : tie.Need-loop-holds Inv-loop μ-loop
+unfolding filled
 loop-holds c =
     let a = c .before .before .before .before .before .before .args in (
       omega arith,
       omega (arith, first-low (a .op) (a .g)),
-      sym (filled-none _ _ _ _ _ (c .first-row .result) (omega arith)),
+      sym (filled-none _ _ _ _ (c .first-row .result) (omega arith)),
     )
 
-padded-row-requires : tie.Need-padded-row-requires Inv-loop μ-loop
-padded-row-requires c κs = (c .before .before .before .before .before .before .before .before .pre, (omega arith, omega arith))
-
-put-row-requires : tie.Need-put-row-requires Inv-loop μ-loop
-put-row-requires c κs = omega (arith, border-high (c .before .before .before .before .before .before .before .before .before .before .args .op))
+pad-row-requires : tie.Need-pad-row-requires Inv-loop μ-loop
+pad-row-requires c κs =
+    let s = c .before .before .before .before .before .before .before .before .before in
+    (s .pre, (omega arith, omega arith, omega (arith, border-high (s .args .op))))
 
 add-n : tie.Need-add-n Inv-loop μ-loop
-add-n c = omega (arith, border-high (c .before .before .before .before .before .before .before .before .before .before .before .args .op))
+add-n c = omega (arith, border-high (c .before .before .before .before .before .before .before .before .before .before .args .op))
 
 loop-less : tie.Need-loop-less Inv-loop μ-loop
 loop-less c = omega arith
 
 loop-again : tie.Need-loop-again Inv-loop μ-loop
+unfolding filled
 loop-again c =
-    let i = c .before .before .before .before .loop in (
+    let i = c .before .before .before .loop in (
       omega arith,
       omega arith,
-      c .put-row .ensures ∙
-          ((λ k. sets (i .inv .2 k) (i .n * rowBytes) (c .before .before .padded-row .ensures k)) ∙ sym (filled-more _ _ _ _ _ (i .n) (omega arith))),
+      c .pad-row .ensures ∙ rw (i .inv .2) (sym (filled-more _ _ _ _ (i .n) (omega arith))),
     )
 
 returns : tie.Need-returns Inv-loop μ-loop
@@ -75,8 +72,7 @@ open-rows-spec =
     add-m
     first-row-requires
     loop-holds
-    padded-row-requires
-    put-row-requires
+    pad-row-requires
     add-n
     loop-less
     loop-again
