@@ -3,11 +3,12 @@
 
     python3 row_four/row_four.py
 
-A copy of the library, outside the repository, prints the number of each row that it pads. Over it runs units.txt, a Rattle program: units of both classed
-operations, of every height, with and without borders below, whole and in advances of 1 to 5 rows. `rt try` compiles it in three ways and
-proves nothing; what the three print must be the same. A line for each unit says how often each of these rows was padded. The status is
-1 where one was padded twice; where one that is padded anew was not (row h is, where bit 8 or bit 32 of the edges is set; elsewhere an index
-leads to the row before it); or where a row was padded otherwise than by `pad_row`, which prints the number.
+A copy of the library, outside the repository, prints the number of each row that it pads. Over it runs units.txt, a Rattle program: units
+of both classed operations, n (user sets) and p (pretrained sets), of every height, with and without borders below, whole and in advances
+of 1 to 5 rows. `rt try` compiles it in three ways and proves nothing; what the three print must be the same. A line for each unit says how
+often each of these rows was padded. The status is 1 where one was padded twice; where one that is padded anew was not (row h is, where
+bit 8 or bit 32 of the edges is set; elsewhere an index leads to the row before it); or where a row was padded otherwise than by `pad_row`,
+which prints the number.
 
 Then each copy of WRONG, a library that does such a thing, has to be found out; where one is not, the status is 1 too. It is 2 where a copy
 could not be made or did not run.
@@ -158,6 +159,8 @@ def not_found_out(what):
 
 
 def main():
+    if not shutil.which('rt'):
+        stop('there is no rt on the path')
     failed = library()
     for what in WRONG:
         failed |= not_found_out(what)
