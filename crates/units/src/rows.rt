@@ -161,7 +161,7 @@ fn put_row(rows: &mut [u8; STATE_BYTES], slot: usize, row: [u8; ROW_BYTES])
     }
 }
 
-// Row r - e padded into a slot. A row is padded here and nowhere else: row_four.py counts them by it.
+// Row r - e padded into a slot. Every row but the luma rows of a chroma unit is padded here: row_four.py counts them by it.
 pub fn pad_row(
     op: Operation,
     g: Given,
