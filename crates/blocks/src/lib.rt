@@ -1,4 +1,6 @@
 // Masks, pieces and stretches of a row of blocks: bit k of a mask is block k, and 1 leaves the block.
+#![tactic(auto)]
+
 ghost use Rattle.std.specs.Prelude.{◌≡◌, ◌+◌, ◌-◌, ◌≤◌, ◌<◌};
 ghost use Rattle.definition.specs.Blocks.{masked, clear_below, stretch_end, stretch_start};
 ghost use Rattle.definition.specs.Leaves.{row_status, block_status, end_from};
@@ -8,7 +10,7 @@ ghost use Rattle.definition.specs.Rows.{or_zero};
 
 use definition::{BLOCK_COLUMN_LIMIT, MASK_BITS, SIDE};
 
-#[derive(Drop)]
+#[derive(Clone, Copy)]
 pub struct Pieces {
     pub status: u8,
     pub pieces: usize,
@@ -49,7 +51,7 @@ fn is_masked(mask: u16, bx: usize) -> bool
     bounds::is_set(mask as usize, bx)
 }
 
-#[derive(Drop)]
+#[derive(Clone, Copy)]
 pub struct Stretch {
     pub status: u8,
     pub start: usize,

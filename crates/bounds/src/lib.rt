@@ -1,4 +1,6 @@
 // Tests of places against lengths, of bits and of sides, the lesser and the larger of two, and a byte as a place, for all 64-bit numbers: nothing wraps.
+#![tactic(auto)]
+
 ghost use Rattle.std.specs.Prelude.{◌≡◌, ◌+◌, min, max, leb};
 ghost use Rattle.definition.specs.Numbers.{bit_set};
 ghost use Rattle.definition.specs.Refusals.{sized, indices_up_to};

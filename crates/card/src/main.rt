@@ -1,5 +1,7 @@
 // Reads a card from standard input and prints what answers it: status, filtered and, at status 0, the rows.
 // At most so many bytes are read as decide what an input means, however long it is.
+#![tactic(auto)]
+
 use card_reader::INPUT_SIZE;
 
 fn main() {

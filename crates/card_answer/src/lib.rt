@@ -1,4 +1,6 @@
 // The answer to a card: the bytes that are printed, by definition a function of the bytes that were read.
+#![tactic(auto)]
+
 ghost use Rattle.std.specs.Prelude.{◌≡◌, true, ◌++◌, ◌*◌, ◌/◌, ◌≤◌, ◌<◌, length, take, drop};
 ghost use Rattle.definition.specs.Blocks.{side, pieces_of};
 ghost use Rattle.definition.specs.Refusals.{sized};
@@ -16,7 +18,7 @@ mod text;
 const TEXT_SIZE: usize = 23 + HEIGHT_LIMIT * ROW_LINE;
 
 // A text of n bytes, and zeros behind it.
-#[derive(Drop)]
+#[derive(Clone, Copy)]
 pub struct Answer {
     pub n: usize,
     pub text: [u8; TEXT_SIZE],

@@ -1,6 +1,8 @@
 // Prints the answers to the cards of data/cards, one after another; data/lengths has their lengths, two bytes each, the low one first.
 // The cards and the answers expected of them, the file stdout, were made by `compare cards 1 FOLDER`: samples are the Rust's, statuses those of a
 // reader that was written in Rust from the scope alone.
+#![tactic(auto)]
+
 ghost use Rattle.std.specs.Prelude.{◌≤◌, ◌<◌, length};
 
 fn wide(x: u8) -> usize

@@ -1,4 +1,6 @@
 // Prints the answer to a card on standard output, and tells how long it is. No contract can say what is written.
+#![tactic(auto)]
+
 ghost use Rattle.std.specs.Prelude.{◌≡◌, length};
 ghost use Rattle.definition.specs.Card.{card_answer};
 

@@ -1,5 +1,7 @@
 // Reads a card (docs/SCOPE.md, 'The card') from a slice, line by line from any place on. Each line has a function, which answers a value and the place
 // behind it, or that the line is not of its form. A place moves on only past bytes that stand there, so it never passes the input's end.
+#![tactic(auto)]
+
 ghost use Rattle.std.specs.Prelude.{◌≡◌, ◌*◌, ◌≤◌, ◌<◌, length, take, drop};
 ghost use Rattle.definition.specs.Card.{input_at, digit_of, hex_of, decimal_at, tap_at, pair_at, group_at, word_at, size_at, filter_at, skip_at, row_at, rows_at, several, end_of, lists_at, unit_at, meaning, negated as Card·negated, unsigned as Card·unsigned, word as Card·word};
 ghost use Rattle.definition.specs.Limits.{width_limit, height_limit};
@@ -9,21 +11,21 @@ ghost use Rattle.card_reader.specs.Lines.{Below, tap_of, Joins};
 use definition::{BLOCK_ROW_LIMIT, HEIGHT_LIMIT, SIDE, WIDTH_LIMIT};
 
 // A number and the place behind it.
-#[derive(Drop)]
+#[derive(Clone, Copy)]
 pub enum Number {
     Value(usize, usize),
     Wrong,
 }
 
 // A filter number and the place behind it.
-#[derive(Drop)]
+#[derive(Clone, Copy)]
 pub enum Tap {
     Value(i8, usize),
     Wrong,
 }
 
 // The place behind a line whose values went into a lent array.
-#[derive(Drop)]
+#[derive(Clone, Copy)]
 pub enum Line {
     Next(usize),
     Wrong,
@@ -41,7 +43,7 @@ const SKIP_LINE: usize = 5 + 5 * BLOCK_ROW_LIMIT;
 pub const INPUT_SIZE: usize = 5 + 6 + 6 + 8 + 87 + SKIP_LINE + HEIGHT_LIMIT * ROW_LINE + 1;
 
 // A card: status 0, its unit and the place behind it, or a refusal and zeros.
-#[derive(Drop)]
+#[derive(Clone, Copy)]
 pub struct Card {
     pub status: u8,
     pub next: usize,

@@ -1,4 +1,6 @@
 // looprestoration.rs: the class index of a block, at depth 8. Nothing is written; what is refused answers its status and zeros.
+#![tactic(auto)]
+
 ghost use Rattle.std.specs.Prelude.{◌≡◌, cond, ◌+◌, ◌-◌, ◌*◌, ◌^◌, ◌<◌, ◌≤◌, min, pos, ◌+ℤ◌, length, get_or};
 ghost use Rattle.definition.specs.Numbers.{bit_set, to_i32};
 ghost use Rattle.definition.specs.Limits.{block_row_limit};
@@ -108,7 +110,7 @@ fn index_of(sums: [u16; 3], noskip: &[u16], base_q: i32, bx: usize, by: usize, b
 }
 
 #[repr(C)]
-#[derive(Drop)]
+#[derive(Clone, Copy)]
 pub struct ClassIndex {
     pub status: u8,
     pub index: u32,

@@ -1,7 +1,8 @@
 // What the code and the definition both speak of: the operation, what a unit is opened with, and the limits. The rest of the definition stands in specs/.
+#![tactic(auto)]
 
 // The four operations: y, n (user sets), p (pretrained sets), c.
-#[derive(Drop)]
+#[derive(Clone, Copy)]
 pub enum Operation {
     Luma,
     User,
@@ -11,7 +12,7 @@ pub enum Operation {
 
 // The numbers that a unit is opened with; what its operation does not use is 0.
 #[repr(C)]
-#[derive(Drop)]
+#[derive(Clone, Copy)]
 pub struct Given {
     pub w: usize,
     pub h: usize,
@@ -30,7 +31,7 @@ pub struct Given {
 }
 
 // What the table of refusals asks of all that is lent: the lengths, and whether a class map is wrong.
-#[derive(Drop)]
+#[derive(Clone, Copy)]
 pub struct Sizes {
     pub plane: usize,
     pub left: usize,

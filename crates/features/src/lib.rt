@@ -1,5 +1,7 @@
 // The features of a block, or of all blocks of a block row at once. The bends are added up down each column first, and a block's feature is the sum of its six
 // columns: so what two blocks share is worked out once, and the compiler takes eight columns at a time. Nothing is written; what is refused answers its status and zeros.
+#![tactic(auto)]
+
 ghost use Rattle.std.specs.Prelude.{◌≡◌, ℕ, ◌+◌, ◌*◌, ◌<◌, ◌≤◌, pos, negsuc, nat_abs, ◌+ℤ◌, ◌-ℤ◌, length, get_or};
 ghost use Rattle.definition.specs.Numbers.{sum_n};
 ghost use Rattle.definition.specs.Limits.{block_column_limit};
@@ -153,7 +155,7 @@ fn rows_status(rows: usize, indices: &[usize; INDEX_COUNT], inside: bool) -> u8
 }
 
 // The three feature sums of a block, by value.
-#[derive(Drop)]
+#[derive(Clone, Copy)]
 pub struct Features {
     pub status: u8,
     pub sums: [u16; 3],
@@ -180,7 +182,7 @@ pub fn pcw_features(rows: &[u8], indices: &[usize; INDEX_COUNT], bx: usize) -> F
     }
 }
 
-#[derive(Drop)]
+#[derive(Clone, Copy)]
 pub struct RowFeatures {
     pub status: u8,
     pub vertical: [u16; BLOCK_COLUMN_LIMIT],

@@ -2,6 +2,8 @@
 // Rows are one flat array of padded rows, reached by ten row indices. Samples are worked out eight at a time in a local, which no store to the
 // destination can be taken to change. Their filter is read anew for each eight: the compiler then sees that its numbers are short. Only small filters are
 // read from a copy (narrow.rt).
+#![tactic(auto)]
+
 ghost use Rattle.std.specs.Prelude.{◌≡◌, length};
 ghost use Rattle.definition.specs.Leaves.{run_status, uv_status, luma_run, pretrained_run, chroma_run};
 

@@ -42,7 +42,7 @@ pub fn put(dst: &mut [u8], x: usize, eight: [u8; 8], skip: usize, m: usize)
 }
 
 // One turn of a run: of the eight samples from byte `at` on it writes m, from the `skip`-th on.
-#[derive(Drop)]
+#[derive(Clone, Copy)]
 pub struct Turn {
     pub at: usize,
     pub skip: usize,

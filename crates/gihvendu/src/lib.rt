@@ -2,6 +2,8 @@
 // what it is lent, and promises what the function promises that it calls.
 // A slice is a pointer and a length, an array one pointer, a struct as C passes it.
 // The operations on units and on a plane stand in a file each.
+#![tactic(auto)]
+
 ghost use Rattle.std.specs.Prelude.{◌≡◌, length};
 ghost use Rattle.definition.specs.ClassIndex.{term, class_index};
 ghost use Rattle.definition.specs.Refusals.{class_status};

@@ -1,4 +1,6 @@
 // intops.rs: the helpers that the core uses. Each takes every value.
+#![tactic(auto)]
+
 ghost use Rattle.std.specs.Prelude.{◌≡◌, ◌+ℤ◌};
 ghost use Rattle.definition.specs.Numbers.{max_z, min_z, clip_z, to_i32};
 

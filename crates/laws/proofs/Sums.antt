@@ -41,4 +41,4 @@ tapped {C} {f} {B} {D} {k} {s} {r} h e b =
 
 -- a sum that a call gave, as the machine passes it on
 pub passed : {C : ℤ} {f : ℕ → ℤ} {B D k : ℕ} {s : ℤ} → mag s < 2 ^ 31 → Partial C f B D k s → Partial C f B D k (to_z w32 (of_z w32 s))
-passed {C} {f} {B} {D} {k} ok h = subst (Partial C f B D k) (sym (to_z-of_z (record { sfits = ok }))) h
+passed {C} {f} {B} {D} {k} ok h = subst (Partial C f B D k) (sym (to_z-of_z {w = w32} (record { sfits = ok }))) h

@@ -1,4 +1,6 @@
 // What an operation is, and what the edge bits of a unit say of the rows around it. Nothing is lent.
+#![tactic(auto)]
+
 ghost use Rattle.std.specs.Prelude.{◌≡◌, ◌^◌, ◌≤◌, ◌<◌, min};
 ghost use Rattle.definition.specs.Units.{border, number_of, classed, chromatic, set_size};
 ghost use Rattle.definition.specs.Refusals.{top_rows};

@@ -1,5 +1,7 @@
 // looprestoration.rs: the three paddings. Each writes one padded row into the bytes that it is lent, and reads only what it is lent.
 // edges: bit 1 left, bit 2 right; other bits are not looked at.
+#![tactic(auto)]
+
 ghost use Rattle.std.specs.Prelude.{◌≡◌, length};
 ghost use Rattle.definition.specs.Leaves.{backup_status, backup_row, lpf_status, lpf_row, luma_status, backup_luma_row, source};
 

@@ -1,10 +1,12 @@
 // A luma unit in two advances: it is broken off after `count` rows, the first sample of its rectangle is written over, and the rest is restored.
 // Shows how a caller uses demand 3: what this function promises is proved from the theorem of the histories, and from nothing of the filter.
+#![tactic(auto)]
+
 ghost use Rattle.std.specs.Prelude.{◌≡◌, cond, ◌<◌, eqb, length, set};
 ghost use Rattle.definition.specs.Calls.{luma_lent, given_y};
 ghost use Rattle.paused.specs.Paused.{PausedUnit};
 
-#[derive(Drop)]
+#[derive(Clone, Copy)]
 pub struct Paused {
     pub status: u8,
     // The pieces of the first advance, and of the one that restores the rest.

@@ -1,5 +1,7 @@
 // A whole luma plane, restored in place unit by unit, row by row from the top left. No second plane is kept: scratch has the rows above the units, and the samples to the
 // left of a unit are listed before they are restored.
+#![tactic(auto)]
+
 ghost use Rattle.plane.specs.Plane.{PlaneRestored};
 
 use whole::Restored;

@@ -1,4 +1,6 @@
 // looprestoration.rs: the quantizer's terms of a class index and the bin of a value, at depth 8. A term that is refused answers its status and 0.
+#![tactic(auto)]
+
 ghost use Rattle.std.specs.Prelude.{◌≡◌, ◌*◌, ◌<◌, ◌≤◌, pos, nat_abs, ◌+ℤ◌, ◌*ℤ◌};
 ghost use Rattle.definition.specs.ClassIndex.{prod, by8192, weight, term, bin};
 ghost use Rattle.definition.specs.Leaves.{or_zero_z, term_status};
@@ -6,7 +8,7 @@ ghost use Rattle.definition.specs.Leaves.{or_zero_z, term_status};
 use tables::{MODE_OFFSETS, MODE_WEIGHTS};
 
 #[repr(C)]
-#[derive(Drop)]
+#[derive(Clone, Copy)]
 pub struct Qval {
     pub status: u8,
     pub value: i32,

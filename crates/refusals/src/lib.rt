@@ -1,5 +1,7 @@
 // When a unit is declined: the table's conditions in their order, for all 64-bit numbers and all lengths. Nothing wraps: a product is only
 // taken once the sizes and strides are within their limits.
+#![tactic(auto)]
+
 ghost use Rattle.std.specs.Prelude.{◌≡◌, cond, not, ◌&&◌, ◌||◌, ◌+◌, ◌-◌, ◌*◌, ◌/◌, ◌%◌, ◌≤◌, ◌<◌, max, ltb, eqb, length};
 ghost use Rattle.definition.specs.Numbers.{bit_set};
 ghost use Rattle.definition.specs.Units.{chromatic, set_size};

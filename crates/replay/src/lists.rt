@@ -3,7 +3,7 @@ ghost use Rattle.std.specs.Prelude.{◌≤◌};
 
 use crate::numbers::below;
 
-#[derive(Drop)]
+#[derive(Clone, Copy)]
 pub struct Unit {
     pub k: usize,
     pub op: usize,
@@ -20,7 +20,7 @@ pub struct Unit {
 }
 
 // The luma of a chroma unit.
-#[derive(Drop)]
+#[derive(Clone, Copy)]
 pub struct Luma {
     pub ss_hor: usize,
     pub ss_ver: usize,

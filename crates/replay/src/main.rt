@@ -3,6 +3,8 @@
 // edges, the status, the pieces, and a digest (FNV-1a, 64 bits) of every byte of the plane that it was lent.
 // The expected lines, in the file stdout, are the Rust's: `compare replay` writes them, from the same generator, which has no
 // seed but the unit's number.
+#![tactic(auto)]
+
 mod lists;
 mod numbers;
 mod restore;

@@ -1,6 +1,7 @@
 // The constant tables of looprestoration.rs: the mode weights, and each filter's taps as signed offsets (dy, dx).
 // The functions that read one are inlined and called with constant places, so the compiler puts the number itself there. Read by a place that varies, as in a
 // quantizer's term that is asked for by itself, a table is laid on the stack at each use.
+#![tactic(auto)]
 
 pub const MODE_WEIGHTS: [[i16; 3]; 4] = [
     [-527, 15325, 321],

@@ -1,4 +1,6 @@
 // Units that can be broken off between rows: open hands out a state, advance takes it with a row count and hands it back.
+#![tactic(auto)]
+
 ghost use Rattle.std.specs.Prelude.{◌≡◌};
 ghost use Rattle.definition.specs.declared.Operation.TheVariants.{Luma, User, Pretrained, Chroma};
 ghost use Rattle.definition.specs.Calls.{luma_lent, classed_lent, chroma_lent, given_y, given_c, call_of};
@@ -19,7 +21,7 @@ use definition::{BLOCK_COLUMN_LIMIT, Given, INDEX_COUNT, Operation, STATE_BYTES}
 // A unit between two advances. op: 0 none, 1 y, 2 n (user sets), 3 p (pretrained), 4 c.
 // rows: ten padded rows of 76 bytes; of a chroma unit five of 76 and, behind them, five luma rows of 140.
 #[repr(C)]
-#[derive(Drop)]
+#[derive(Clone, Copy)]
 pub struct State {
     pub op: usize,
     pub given: Given,
@@ -32,14 +34,14 @@ pub struct State {
 
 // The state comes first: behind the status it is copied once more where a whole unit is restored.
 #[repr(C)]
-#[derive(Drop)]
+#[derive(Clone, Copy)]
 pub struct Opened {
     pub state: State,
     pub status: u8,
 }
 
 #[repr(C)]
-#[derive(Drop)]
+#[derive(Clone, Copy)]
 pub struct Advanced {
     pub status: u8,
     pub pieces: usize,

@@ -1,4 +1,6 @@
 // looprestoration.rs: the whole-unit operations. Each opens a unit and advances it by all its rows.
+#![tactic(auto)]
+
 ghost use Rattle.definition.specs.declared.Operation.TheVariants.{Luma, User, Pretrained, Chroma};
 ghost use Rattle.definition.specs.Calls.{unit_lent, luma_lent, classed_lent, chroma_lent, given_y, given_c};
 ghost use Rattle.whole.specs.Whole.{Whole};
@@ -7,7 +9,7 @@ use definition::{Given, Operation};
 use units::opening::{given_c, given_y};
 
 #[repr(C)]
-#[derive(Drop)]
+#[derive(Clone, Copy)]
 pub struct Restored {
     pub status: u8,
     pub pieces: usize,

@@ -6,8 +6,7 @@ use native.Mathlib.Decide.{dec_lt}
 use native.Mathlib.Omega.{arith}
 use lib.Pow.{pow-lt, shr_lt}
 use borrow.Author.Rules.{rules}
-use Rattle.bounds.proofs.is_set.Statement.{statement}
-use Rattle.bounds.proofs.is_set.Tie as tie
+use Rattle.bounds.proofs.is_set.Goals as goal
 
 below : (m k : ℕ) → m < 2 ^ 64 → 64 ≤ k → m < 2 ^ k
 below m k h l =
@@ -19,14 +18,6 @@ below m k h l =
 none_left : (m k : ℕ) → m < 2 ^ 64 → 64 ≤ k → m / 2 ^ k ≡ 0
 none_left m k h l = let z : m / 2 ^ k < 2 ^ 0 = shr_lt 0 k (rw (zero-add k) (below m k h l)) in omega arith
 
-returns : tie.Need-returns
-returns c = let s = c.before in rw (none_left s.args.m s.args.k (omega arith) (omega arith))
-
-shr-result : tie.Need-overflow-shr-result
-shr-result c = search rules
-
-returns-2 : tie.Need-returns-2
-returns-2 c = search rules
-
-pub is-set-spec : {M : Type 1} → statement M
-is-set-spec = tie.close (tie.spec returns shr-result returns-2)
+pub returns-then-k-gt63 : goal.returns-then-k-gt63
+returns-then-k-gt63 c =
+    rw (none_left c.args.m c.args.k (omega arith) (omega arith))
