@@ -37,12 +37,16 @@ add_column (pos zero) straight j h =
     record { at = j + 1; low = omega arith; is = +ℤ_assoc (pos j) (negsuc 0) (pos 0) ∙ itself j }
 add_column (pos (suc zero)) right j h = record { at = j + 2; low = omega arith; is = one-behind j }
 add_column (negsuc zero) left j h = record { at = j; low = omega arith; is = one-before j }
+add_column (pos (suc (suc _))) x8 j h = elim x8 [ ]
+add_column (negsuc (suc _)) x6 j h = elim x6 [ ]
 
 sub_column : (d : ℤ) → Direction d → (j : ℕ) → j < 6 → Column (pos j -ℤ pos 1 -ℤ d)
 sub_column (pos zero) straight j h =
     record { at = j + 1; low = omega arith; is = +ℤ_assoc (pos j) (negsuc 0) (pos 0) ∙ itself j }
 sub_column (pos (suc zero)) right j h = record { at = j; low = omega arith; is = one-before j }
 sub_column (negsuc zero) left j h = record { at = j + 2; low = omega arith; is = one-behind j }
+sub_column (pos (suc (suc _))) x8 j h = elim x8 [ ]
+sub_column (negsuc (suc _)) x6 j h = elim x6 [ ]
 
 module _ (s t : ℤ → ℤ → ℕ) (e : Eight s t) where
   at_place : (y z : ℤ) (a : ℕ) → a < 8 → y ≡ pos a -ℤ pos 2 → Column z → s y z ≡ t y z

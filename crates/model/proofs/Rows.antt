@@ -70,7 +70,8 @@ pub pad_alike : (op : Operation) (g : Given) (l : Lent) (p q : List ℕ) (R S : 
 unfolding pad_row sample_at
 pad_alike op g l p q R S a =
     ap (sets (replicate row_bytes 0) (row_origin - border op))
-    (tab_cong (border op + g.w + border op) _ _ (λ j h. padded-alike (border op) g.w (g.w - 1) (has_left g.edges) (has_right g.edges) _ _ a j))
+    (tab_cong (border op + g.w + border op) _ _ (λ j h. padded-alike (border op) g.w (g.w - 1) (has_left g.edges) (has_right g.edges)
+    (unit_row op g l p (pos R -ℤ pos (border op))) (unit_row op g l q (pos S -ℤ pos (border op))) a j))
 
 -- the same row under two numbers
 same_row : (op : Operation) (g : Given) (l : Lent) (p : List ℕ) (R S : ℕ) →
