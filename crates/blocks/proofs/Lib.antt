@@ -1,3 +1,4 @@
 pub mod First
 pub mod Bits
 pub mod Told
+pub mod Walk
