@@ -43,7 +43,7 @@ bin-steps v = rw (max_zero v, pick (raised v + 8192) 2147483647) (pick (min (rai
 
 -- a number shifted to the right, read back from its bits
 shr_is : (z : ℤ) (m : ℕ) → SFits w32 z → to_z w32 (of_z w32 (shr_z (to_z w32 (of_z w32 z)) m)) ≡ shr_z z m
-shr_is z m f = rw (to_z-of_z f) (to_z-of_z (record { sfits = lt_of_le_of_lt (mag_shr z m) f.sfits }))
+shr_is z m f = rw (to_z-of_z f) (to_z-of_z {w = w32} (record { sfits = lt_of_le_of_lt (mag_shr z m) f.sfits }))
 
 -- the same with each step read back from its bits, and the last shift
 pub binned : (v m a n : ℤ) → SFits w32 v → SFits w32 m → SFits w32 a → SFits w32 n →

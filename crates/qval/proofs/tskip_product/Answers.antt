@@ -1,0 +1,17 @@
+-- `qval::tskip_product` meets its contract: each step is exact in 64 bits.
+use native.Mathlib.Omega.{arith}
+use Prim.Native.Nat.{◌≤◌}
+use lib.Dec.{lit<, lit≤}
+use lib.IntN.{pos}
+use mir.Syntax.{w64}
+use Rattle.laws.proofs.Held.{Held, typed, natural, cast, times, plus, shifted}
+use Rattle.qval.proofs.tskip_product.Goals as goal
+
+half : Held w64 128 (pos 128) 128
+half = natural (lit≤ tt) (lit< tt)
+
+pub returns : goal.returns
+returns c =
+    let b : c.args.tskip ≤ 255 = omega arith in
+    let r = shifted 256 (plus (times (natural b (lit< tt)) (cast w64 (typed c.ranges.qstep) (lit< tt)) (lit< tt)) half (lit< tt)) (lit< tt) in
+    (r.is, rw r.is r.bound)
