@@ -26,11 +26,11 @@ pub record Stood (x : Reading (List (List ℕ))) (n : ℕ) (p q : List ℕ) : Ty
   pub is : x ≡ value rows n
   pub plane : q ≡ joined rows ++ drop (length (joined rows)) p
 
-stood_next : (x : Reading (List (List ℕ))) (n : ℕ) (p q : List ℕ) → Joins x (Next n) p q → Stood x n p q
+pub stood_next : (x : Reading (List (List ℕ))) (n : ℕ) (p q : List ℕ) → Joins x (Next n) p q → Stood x n p q
 stood_next (value rows at) n p q h = record { rows = rows; is = ap (value rows) (sym h.0); plane = h.1 }
 stood_next wrong n p q h = absurd h
 
-fell : (x : Reading (List (List ℕ))) (p q : List ℕ) → Joins x Wrong p q → x ≡ wrong
+pub fell : (x : Reading (List (List ℕ))) (p q : List ℕ) → Joins x Wrong p q → x ≡ wrong
 fell (value rows at) p q h = absurd h
 fell wrong p q h = refl
 

@@ -75,6 +75,7 @@ fn digit_of(b: usize) -> usize
 }
 
 // A decimal: one to three digits, no leading zero, and the byte that ends them.
+#[tactic(auto, unfolding(definition::specs::Card::decimal_at, definition::specs::Card::decimal_of))]
 fn read_decimal(s: &[u8], at: usize, end: u8) -> Number
     ensures { number_of result ≡ decimal_at s.now end at }
 {
@@ -129,6 +130,7 @@ fn unsigned(v: usize, at: usize) -> Tap
     Tap::Value(v as i8, at)
 }
 
+#[tactic(auto, unfolding(definition::specs::Card::tap_at))]
 fn read_tap(s: &[u8], at: usize, end: u8) -> Tap
     ensures { tap_of result ≡ tap_at s.now end at }
 {
@@ -164,6 +166,7 @@ fn hex_of(b: usize) -> usize
 }
 
 // Two hex digits.
+#[tactic(auto, unfolding(definition::specs::Card::pair_at))]
 fn read_pair(s: &[u8], at: usize) -> Number
     ensures result_value { number_of result ≡ pair_at s.now at }
     ensures below { Below 256 result }
@@ -180,6 +183,7 @@ fn read_pair(s: &[u8], at: usize) -> Number
 }
 
 // Four hex digits and the byte that ends them.
+#[tactic(auto, unfolding(definition::specs::Card::group_at))]
 fn read_group(s: &[u8], at: usize, end: u8) -> Number
     ensures result_value { number_of result ≡ group_at s.now end at }
     ensures below { Below 65536 result }
@@ -213,6 +217,7 @@ fn read_word(s: &[u8], at: usize, word: &[u8]) -> Line
 }
 
 // A line of one number, as w or h: its name, `=` included, and a decimal.
+#[tactic(auto, unfolding(definition::specs::Card::size_at))]
 pub fn read_size(s: &[u8], at: usize, name: &[u8]) -> Number
     ensures { number_of result ≡ size_at s.now name.now at }
 {
@@ -282,6 +287,7 @@ fn read_samples(s: &[u8], at: usize, row: &mut [u8]) -> Line
 }
 
 // The filter's line: 16 decimals. A line that is not of its form leaves the filter as it was.
+#[tactic(auto, unfolding(definition::specs::Card::filter_at))]
 pub fn read_filter(s: &[u8], at: usize, filter: &mut [i8; 16]) -> Line
     ensures filter_after { line_of result filter.new ≡ filter_at s.now at }
     ensures filter_after_2 { filter.new ≡ value_or filter.old (filter_at s.now at) }
@@ -298,6 +304,7 @@ pub fn read_filter(s: &[u8], at: usize, filter: &mut [i8; 16]) -> Line
 }
 
 // The skip line: four hex digits for each of n block rows.
+#[tactic(auto, unfolding(definition::specs::Card::skip_at))]
 fn read_skip(s: &[u8], at: usize, n: usize, skip: &mut [u16]) -> Line
     requires { n ≤ length skip.old }
     ensures skip_after { line_of result (take n skip.new) ≡ skip_at s.now n at }
@@ -310,6 +317,7 @@ fn read_skip(s: &[u8], at: usize, n: usize, skip: &mut [u16]) -> Line
 }
 
 // A row's line: two hex digits for each sample.
+#[tactic(auto, unfolding(definition::specs::Card::row_at))]
 fn read_row(s: &[u8], at: usize, row: &mut [u8]) -> Line
     ensures { line_of result row.new ≡ row_at s.now (length row.old) at }
 {
