@@ -1,5 +1,5 @@
 //! Links libgihvendu.a, the static library of the core: from the folder GIHVENDU_LIB where that is set, else as
-//! `rt staticlib gihvendu` makes it of this repository.
+//! `rt lib` makes it in crates/gihvendu of this repository.
 
 use std::path::{Path, PathBuf};
 use std::process::{Command, exit};
@@ -8,7 +8,7 @@ use std::{env, fs};
 const ARCHIVE: &str = "libgihvendu.a";
 
 const WANTED: &str = "gihvendu links libgihvendu.a. Either the Rattle kit's `rt` is on PATH, and this package stands in its \
-                      repository (then `rt staticlib gihvendu` makes it), or GIHVENDU_LIB is the absolute path of a folder that has it.";
+                      repository (then `rt lib` makes it), or GIHVENDU_LIB is the absolute path of a folder that has it.";
 
 fn stop(reason: &str) -> ! {
     eprintln!("\n{reason}\n{WANTED}\n");
@@ -36,22 +36,27 @@ fn made() -> PathBuf {
     if !root.join("crates.txt").is_file() {
         stop(&format!("There is no crates.txt in {}.", root.display()));
     }
-    for source in ["crates", "crates.txt"] {
-        println!("cargo::rerun-if-changed={}", root.join(source).display());
+    println!("cargo::rerun-if-changed={}", root.join("crates.txt").display());
+    // not the whole of crates: `rt` writes there what it makes
+    for folder in fs::read_dir(root.join("crates")).into_iter().flatten().flatten() {
+        for source in ["src", "specs", "proofs"] {
+            let source = folder.path().join(source);
+            if source.is_dir() {
+                println!("cargo::rerun-if-changed={}", source.display());
+            }
+        }
     }
-    let run = Command::new("rt")
-        .args(["staticlib", "gihvendu"])
-        .current_dir(&root)
-        .output();
+    let core = root.join("crates/gihvendu");
+    let run = Command::new("rt").arg("lib").current_dir(&core).output();
     match run {
         Err(error) => stop(&format!("`rt` cannot be run: {error}.")),
         Ok(run) if !run.status.success() => stop(&format!(
-            "`rt staticlib gihvendu` failed in {}:\n{}{}",
-            root.display(),
+            "`rt lib` failed in {}:\n{}{}",
+            core.display(),
             String::from_utf8_lossy(&run.stdout),
             String::from_utf8_lossy(&run.stderr)
         )),
-        Ok(_) => root.join("target/staticlib"),
+        Ok(_) => core.join("out"),
     }
 }
 
