@@ -1,0 +1,17 @@
+-- `features::column_sums` meets its contract: before turn k the columns from m to k - 1 are summed.
+use mathlib.Core.Path.{◌≡◌}
+use Prim.Native.Nat.{ℕ, ◌+◌, ◌-◌, ◌≤◌, ◌<◌}
+use lib.ListN.{length, get_or}
+use Rattle.features.specs.Columns.{column_sum, column_count, column_limit}
+use Rattle.features.proofs.column_sums.Given as goal
+
+abbrev pub invariant-loop-k : goal.invariant-loop-k
+invariant-loop-k l =
+    (length l.out ≡ column_count) ×
+    (l.m ≤ l.k) ×
+    (l.k ≤ l.n) ×
+    ((j : ℕ) → l.m ≤ j → j < l.k → (get_or l.out j 0 ≡ column_sum l.rows l.indices (l.a + j) (3 + j) (l.z + j)) × (get_or l.out j 0 ≤ column_limit))
+
+abbrev pub decreases-loop-k : goal.decreases-loop-k
+decreases-loop-k l =
+    l.n - l.k

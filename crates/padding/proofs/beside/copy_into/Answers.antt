@@ -1,0 +1,10 @@
+-- `padding::beside::copy_into` meets its contract: each turn stores one byte more (`sets_more`).
+use Prim.Native.Nat.{◌+◌}
+use native.Mathlib.Omega.{arith}
+use lib.ListN.{get_or, length-set}
+use Rattle.laws.proofs.Lists.{sets_more}
+use Rattle.padding.proofs.beside.copy_into.Goals as goal
+
+pub loop-j-preserved : goal.loop-j-preserved
+loop-j-preserved c =
+    (omega arith, simp length-set c.loop-j.invariant.1, rw c.loop-j.invariant.2 (sets_more c.loop-j.j c.args.dst.now c.args.at (λ i. get_or c.args.src.now (c.args.from + i) 0)))

@@ -1,0 +1,15 @@
+-- `padding::beside::copy_into` meets its contract: each turn stores one byte more (`sets_more`).
+use Prim.Native.Nat.{◌+◌, ◌-◌, ◌≤◌}
+use mathlib.Core.Path.{◌≡◌}
+use lib.ListN.{length, get_or}
+use lib.Seq.{sets}
+use Rattle.definition.specs.Rows.{tab}
+use Rattle.padding.proofs.beside.copy_into.Given as goal
+
+abbrev pub invariant-loop-j : goal.invariant-loop-j
+invariant-loop-j l =
+    (l.j ≤ l.n) × (length l.dst ≡ length l.initial.dst) × (l.dst ≡ sets l.initial.dst l.at (tab l.j (λ i. get_or l.src (l.from + i) 0)))
+
+abbrev pub decreases-loop-j : goal.decreases-loop-j
+decreases-loop-j l =
+    l.n - l.j
