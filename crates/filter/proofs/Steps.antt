@@ -25,10 +25,10 @@ spot {reach = reach} {dx = dx} w s u d x =
 -- a tap of a table whose taps reach at most 4, as the machine holds it
 module _ (reach : ℕ) (taps : List (List ℤ)) (e : T (near reach [])) (t : T (all (near reach) taps)) (r : reach ≤ 4) (k : ℕ) where
   pub dy_is : to_z w8 (of_z w8 (dy_of taps k)) ≡ dy_of taps k
-  dy_is = to_z-of_z (sfits_abs (omega (arith, (near-at reach taps e t k).0)))
+  dy_is = to_z-of_z {w = w8} (sfits_abs (omega (arith, (near-at reach taps e t k).0)))
 
   pub dx_is : to_z w8 (of_z w8 (dx_of taps k)) ≡ dx_of taps k
-  dx_is = to_z-of_z (sfits_abs (omega (arith, (near-at reach taps e t k).1)))
+  dx_is = to_z-of_z {w = w8} (sfits_abs (omega (arith, (near-at reach taps e t k).1)))
 
   pub tap_spot : {mid : ℕ} {rows indices : List ℕ} {col : ℕ} → Window 0 row_bytes reach rows indices col → reach ≤ mid → mid + reach < index_count →
       Spot row_bytes mid col (to_z w8 (of_z w8 (dy_of taps k))) (to_z w8 (of_z w8 (dx_of taps k)))
