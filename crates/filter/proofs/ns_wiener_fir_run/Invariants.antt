@@ -1,17 +1,11 @@
 -- `filter::ns_wiener_fir_run` meets its contract: after each turn the first x samples are written.
-use native.Mathlib.Omega.{arith}
-use mathlib.Core.Path.{◌≡◌, refl, sym, ap, ◌∙◌}
 use Prim.Native.Nat.{ℕ, ◌+◌, ◌-◌}
-use lib.Dec.{lit≤}
 use lib.ListN.{length}
 use Rattle.definition.specs.Rows.{luma_flat}
 use Rattle.definition.specs.Sample.{limit8, luma_sample}
-use Rattle.definition.specs.Leaves.{run_status, coefficients}
+use Rattle.definition.specs.Leaves.{coefficients}
 use Rattle.filter.specs.Windows.{OwnInside}
-use Rattle.filter.proofs.Statuses.{run_inside, eight-inside}
-use Rattle.filter.proofs.Groups.{as_long}
-use Rattle.laws.proofs.Passes.{refused}
-use Rattle.filter.proofs.Writes.{Writing, none_yet, same, one_turn, turn_room, written, done}
+use Rattle.filter.proofs.Writes.{Writing}
 use Rattle.filter.proofs.ns_wiener_fir_run.Given as goal
 
 abbrev pub invariant-loop-x : goal.invariant-loop-x

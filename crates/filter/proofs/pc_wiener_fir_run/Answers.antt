@@ -12,8 +12,7 @@ use Rattle.filter.proofs.pc_wiener_fir_run.Goals as goal
 
 pub loop-x-init : goal.loop-x-init
 loop-x-init c =
-    none_yet
-    (
+    none_yet (
       run_inside (length c.args.dst.now) c.args.rows.now c.args.indices.now c.args.col0 c.args.n (sym c.run_status-status.ensures ∙ c.if-status-ne0.false),
       passed_off (record { sfits = c.taken_off-off.type_inv }) c.taken_off-off.ensures,
     )

@@ -1,12 +1,8 @@
 -- `filter::chroma::gather` meets its contract: after k turns the first k rows are gathered.
-use native.Mathlib.Omega.{arith}
-use mathlib.Core.Path.{◌≡◌, refl}
-use Prim.Native.Nat.{◌+◌, ◌-◌, ◌*◌, ◌≤◌, zero-le}
-use lib.ListN.{length, get_or}
-use lib.Seq.{length-sets}
-use Rattle.definition.specs.Rows.{luma_row_bytes, luma_rows_at}
+use mathlib.Core.Path.{◌≡◌}
+use Prim.Native.Nat.{◌-◌, ◌≤◌}
+use lib.ListN.{length}
 use Rattle.filter.specs.Gathered.{Gathered, compact_size}
-use Rattle.filter.proofs.Gathering.{none-gathered, one-gathered}
 use Rattle.filter.proofs.chroma.gather.Given as goal
 
 abbrev pub invariant-loop-k : goal.invariant-loop-k

@@ -1,10 +1,8 @@
 -- `filter::chroma::gather_row` meets its contract: after j turns the first j bytes are written.
-use native.Mathlib.Omega.{arith}
-use mathlib.Core.Path.{◌≡◌, refl}
+use mathlib.Core.Path.{◌≡◌}
 use Prim.Native.Nat.{◌-◌, ◌≤◌}
 use lib.Seq.{sets}
 use Rattle.definition.specs.Rows.{tab}
-use Rattle.laws.proofs.Lists.{sets_more}
 use Rattle.filter.specs.Gathered.{every}
 use Rattle.filter.proofs.chroma.gather_row.Given as goal
 

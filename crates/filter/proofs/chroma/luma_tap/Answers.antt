@@ -1,8 +1,8 @@
 -- `filter::chroma::luma_tap` meets its contract: the rules of `Held`, in the order of the code.
 use native.Mathlib.Omega.{arith}
-use Prim.Native.Nat.{ℕ, ◌+◌, ◌≤◌, ◌<◌}
+use Prim.Native.Nat.{ℕ, ◌≤◌}
 use lib.Dec.{lit<}
-use lib.IntN.{ℤ, nat_abs, pos, ◌-ℤ◌, ◌*ℤ◌}
+use lib.IntN.{ℤ, pos, ◌-ℤ◌, ◌*ℤ◌}
 use mir.Syntax.{w8, w32}
 use mir.Val.{SFits, of_z}
 use Rattle.definition.specs.Sample.{limit8}

@@ -1,15 +1,7 @@
 -- `filter::chroma::uv_eight` meets its contract: after j turns the first j samples are worked out.
-use native.Mathlib.Omega.{arith}
-use mathlib.Core.Path.{◌≡◌, refl, ap, ◌∙◌}
 use Prim.Native.Nat.{ℕ, ◌+◌, ◌-◌, ◌≤◌}
-use lib.Dec.{lit<}
-use mir.Syntax.{w32}
-use mir.Val.{to_z, of_z}
-use mir.Facts.{to_z-of_z}
-use Rattle.definition.specs.Sample.{limit8, rounded}
 use Rattle.filter.specs.Gathered.{compact_sample}
-use Rattle.filter.proofs.Groups.{below, both_sums}
-use Rattle.filter.proofs.Writes.{Filled, one-filled}
+use Rattle.filter.proofs.Writes.{Filled}
 use Rattle.filter.proofs.chroma.uv_eight.Given as goal
 
 abbrev pub invariant-loop-j : goal.invariant-loop-j

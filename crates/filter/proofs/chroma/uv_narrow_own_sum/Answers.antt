@@ -16,7 +16,7 @@ uv_narrow_step-t4-requires-clause-chroma_group c = fresh (c.requires.window, c.r
 pub returns : goal.returns
 returns c =
     let sum0 : ChromaPartial c.args.rows.now c.args.indices.now c.args.col c.args.filter.now 0 c.ns_start-s0.result =
-        record { window = c.requires.window; sum = begun c.ns_start-s0.ensures.0 c.ns_start-s0.ensures.1 } in
+    record { window = c.requires.window; sum = begun c.ns_start-s0.ensures.0 c.ns_start-s0.ensures.1 } in
     let s3 = joined w32 w16 sum0 c.uv_narrow_step-t3.ensures (lit≤ tt) c.ns_start-s0.type_inv c.uv_narrow_step-t3.type_inv c.with_group-s3.ensures in
     let s6 = joined w32 w16 s3 c.uv_narrow_step-t6.ensures (lit≤ tt) c.with_group-s3.type_inv c.uv_narrow_step-t6.type_inv c.with_group.ensures in
     onward c.with_group.type_inv s6

@@ -1,13 +1,9 @@
 -- `filter::chroma::uv_narrow_run` meets its contract: after each turn the first x samples are written.
 use native.Mathlib.Omega.{arith}
-use mathlib.Core.Path.{◌≡◌, refl, ◌∙◌}
-use Prim.Native.Nat.{ℕ, ◌+◌, ◌-◌}
-use lib.Dec.{lit≤}
-use lib.ListN.{length}
-use Rattle.filter.specs.Windows.{OwnInside}
+use mathlib.Core.Path.{◌≡◌, ◌∙◌}
+use Prim.Native.Nat.{◌+◌}
 use Rattle.filter.specs.Gathered.{compact_sample}
-use Rattle.filter.proofs.Statuses.{eight-inside}
-use Rattle.filter.proofs.Writes.{Writing, none_yet, same, one_turn, turn_room, written}
+use Rattle.filter.proofs.Writes.{one_turn}
 use Rattle.filter.proofs.chroma.uv_narrow_run.Goals as goal
 
 pub loop-x-preserved : goal.loop-x-preserved

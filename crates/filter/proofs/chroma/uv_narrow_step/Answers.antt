@@ -19,7 +19,7 @@ returns c =
     let k = c.args.g + c.args.j in
     let fits : SFits w8 (coefficients c.args.filter.now k) = search rules in
     let number : Held w8 (of_z w8 (coefficients c.args.filter.now k)) (coefficients c.args.filter.now k) small_limit =
-        small-number w8 c.requires.chroma_group.window.1 k (omega (arith, c.requires.j_bound)) fits.sfits in
+    small-number w8 c.requires.chroma_group.window.1 k (omega (arith, c.requires.j_bound)) fits.sfits in
     let d-is = to_z-of_z {w = w16} {z = c.difference-d.result} (record { sfits = c.difference-d.type_inv }) ∙ c.difference-d.ensures.0 in
     stepped_by c.requires.chroma_group c.ranges.s c.narrow_tap.type_inv
     (ns_tap-is (coefficients c.args.filter.now) k c.uv_pair-p.ensures c.centre_at-m.ensures d-is (cast w16 number (lit< tt)).is) c.narrow_tap.ensures

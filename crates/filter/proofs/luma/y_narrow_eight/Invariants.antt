@@ -1,14 +1,9 @@
 -- `filter::luma::y_narrow_eight` meets its contract: after j turns the first j samples are worked out.
-use native.Mathlib.Omega.{arith}
-use mathlib.Core.Path.{◌≡◌, refl, ap, ◌∙◌}
 use Prim.Native.Nat.{ℕ, ◌+◌, ◌-◌, ◌≤◌}
-use mir.Syntax.{w32}
-use mir.Val.{to_z, of_z}
-use mir.Facts.{to_z-of_z}
 use Rattle.definition.specs.Rows.{luma_flat}
-use Rattle.definition.specs.Sample.{rounded, luma_sample, limit8}
+use Rattle.definition.specs.Sample.{luma_sample, limit8}
 use Rattle.definition.specs.Leaves.{coefficients}
-use Rattle.filter.proofs.Writes.{Filled, one-filled}
+use Rattle.filter.proofs.Writes.{Filled}
 use Rattle.filter.proofs.luma.y_narrow_eight.Given as goal
 
 abbrev pub invariant-loop-j : goal.invariant-loop-j

@@ -28,7 +28,7 @@ y_narrow_step-t15-requires-clause-luma_group c = fresh (c.requires.window, c.req
 pub with_group-requires : goal.with_group-requires
 with_group-requires c =
     let sum0 : LumaPartial c.args.rows.now c.args.indices.now c.args.col c.args.filter.now 0 c.ns_start-s0.result =
-        record { window = c.requires.window; sum = begun c.ns_start-s0.ensures.0 c.ns_start-s0.ensures.1 } in
+    record { window = c.requires.window; sum = begun c.ns_start-s0.ensures.0 c.ns_start-s0.ensures.1 } in
     let s3 = joined w32 w16 sum0 c.y_narrow_step-t3.ensures (lit≤ tt) c.ns_start-s0.type_inv c.y_narrow_step-t3.type_inv c.with_group-s3.ensures in
     let s6 = joined w32 w16 s3 c.y_narrow_step-t6.ensures (lit≤ tt) c.with_group-s3.type_inv c.y_narrow_step-t6.type_inv c.with_group-s6.ensures in
     let s9 = joined w32 w16 s6 c.y_narrow_step-t9.ensures (lit≤ tt) c.with_group-s6.type_inv c.y_narrow_step-t9.type_inv c.with_group-s9.ensures in
@@ -39,7 +39,7 @@ with_group-requires c =
 pub returns : goal.returns
 returns c =
     let sum0 : LumaPartial c.args.rows.now c.args.indices.now c.args.col c.args.filter.now 0 c.ns_start-s0.result =
-        record { window = c.requires.window; sum = begun c.ns_start-s0.ensures.0 c.ns_start-s0.ensures.1 } in
+    record { window = c.requires.window; sum = begun c.ns_start-s0.ensures.0 c.ns_start-s0.ensures.1 } in
     let s3 = joined w32 w16 sum0 c.y_narrow_step-t3.ensures (lit≤ tt) c.ns_start-s0.type_inv c.y_narrow_step-t3.type_inv c.with_group-s3.ensures in
     let s6 = joined w32 w16 s3 c.y_narrow_step-t6.ensures (lit≤ tt) c.with_group-s3.type_inv c.y_narrow_step-t6.type_inv c.with_group-s6.ensures in
     let s9 = joined w32 w16 s6 c.y_narrow_step-t9.ensures (lit≤ tt) c.with_group-s6.type_inv c.y_narrow_step-t9.type_inv c.with_group-s9.ensures in

@@ -1,15 +1,7 @@
 -- `filter::pretrained::is_small_set` meets its contract: where none of the first k is large, each of them is small.
-use native.Mathlib.Omega.{arith}
-use mathlib.Core.Logic.{⊎_elim}
 use mathlib.Core.Path.{◌≡◌}
 use Prim.Native.Nat.{◌-◌, ◌≤◌}
-use lib.IntN.{pos}
-use lib.ListN.{get_or}
-use borrow.Author.Tests.{eqb-true}
-use mir.Syntax.{w16}
-use mir.Facts.{to_z-of_z}
 use Rattle.filter.specs.Groups.{Small}
-use Rattle.filter.proofs.Groups.{small_more, as_long}
 use Rattle.filter.proofs.pretrained.is_small_set.Given as goal
 
 abbrev pub invariant-loop-k : goal.invariant-loop-k

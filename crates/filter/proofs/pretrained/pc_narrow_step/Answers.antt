@@ -20,6 +20,6 @@ returns c =
     let fits : SFits w16 (coefficients c.args.filter.now k) = search rules in
     let pair : Held w16 c.pc_pair-p.result (pos c.pc_pair-p.result) pair_limit = natural c.pc_pair-p.ensures.bound (lit< tt) in
     let number : Held w16 (of_z w16 (coefficients c.args.filter.now k)) (coefficients c.args.filter.now k) small_limit =
-        small-number w16 c.requires.pretrained_group.window.1 k c.requires.j_bound.0 fits.sfits in
+    small-number w16 c.requires.pretrained_group.window.1 k c.requires.j_bound.0 fits.sfits in
     let d-is = pair.is ∙ (λ i. pos (c.pc_pair-p.ensures.is i)) in
     stepped_by c.requires.pretrained_group c.ranges.s c.narrow_tap.type_inv (λ i. d-is i *ℤ number.is i) c.narrow_tap.ensures

@@ -28,10 +28,10 @@ pub returns : goal.returns
 returns c =
     let last-is = to_z-of_z c.ranges.last ∙ c.requires.small.1 in
     let sum0 : NarrowPretrained c.args.rows.now c.args.indices.now c.args.col c.args.filter.now 0 c.pc_centre-s0.result =
-        record {
-          window = c.requires.window;
-          sum = begun (c.pc_centre-s0.ensures.0 ∙ (λ i. pos (centre (luma_flat c.args.rows.now c.args.indices.now c.args.col)) *ℤ last-is i)) c.pc_centre-s0.ensures.1;
-        } in
+    record {
+      window = c.requires.window;
+      sum = begun (c.pc_centre-s0.ensures.0 ∙ (λ i. pos (centre (luma_flat c.args.rows.now c.args.indices.now c.args.col)) *ℤ last-is i)) c.pc_centre-s0.ensures.1;
+    } in
     let s3 = joined w32 w16 sum0 c.pc_narrow_step-t3.ensures (lit≤ tt) c.pc_centre-s0.type_inv c.pc_narrow_step-t3.type_inv c.with_group-s3.ensures in
     let s6 = joined w32 w16 s3 c.pc_narrow_step-t6.ensures (lit≤ tt) c.with_group-s3.type_inv c.pc_narrow_step-t6.type_inv c.with_group-s6.ensures in
     let s9 = joined w32 w16 s6 c.pc_narrow_step-t9.ensures (lit≤ tt) c.with_group-s6.type_inv c.pc_narrow_step-t9.type_inv c.with_group-s9.ensures in

@@ -1,5 +1,4 @@
 -- `filter::taps::pair_at` meets its contract: the mirrored tap is as far from the centre, so it stays in the row too.
-use borrow.Author.Rules.{rules}
 use native.Mathlib.Omega.{arith}
 use mathlib.Core.Path.{◌≡◌, ◌∙◌}
 use Prim.Native.Nat.{ℕ, ◌+◌, ◌<◌}

@@ -1,10 +1,7 @@
 -- `filter::turns::put_some` meets its contract: after j turns the first j samples are stored.
 use native.Mathlib.Omega.{arith}
-use mathlib.Core.Path.{◌≡◌, refl}
-use Prim.Native.Nat.{◌+◌, ◌-◌, ◌≤◌}
-use lib.ListN.{length, get_or, length-set}
-use lib.Seq.{sets}
-use Rattle.definition.specs.Rows.{tab}
+use Prim.Native.Nat.{◌+◌}
+use lib.ListN.{get_or, length-set}
 use Rattle.laws.proofs.Lists.{sets_more}
 use Rattle.filter.proofs.turns.put_some.Goals as goal
 

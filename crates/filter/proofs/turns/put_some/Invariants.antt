@@ -1,11 +1,9 @@
 -- `filter::turns::put_some` meets its contract: after j turns the first j samples are stored.
-use native.Mathlib.Omega.{arith}
-use mathlib.Core.Path.{◌≡◌, refl}
+use mathlib.Core.Path.{◌≡◌}
 use Prim.Native.Nat.{◌+◌, ◌-◌, ◌≤◌}
-use lib.ListN.{length, get_or, length-set}
+use lib.ListN.{length, get_or}
 use lib.Seq.{sets}
 use Rattle.definition.specs.Rows.{tab}
-use Rattle.laws.proofs.Lists.{sets_more}
 use Rattle.filter.proofs.turns.put_some.Given as goal
 
 abbrev pub invariant-loop-j : goal.invariant-loop-j
