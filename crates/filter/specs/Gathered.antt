@@ -35,7 +35,7 @@ pub record Gathered (rows indices : List ℕ) (first step n m : ℕ) (compact : 
 abbrev pub compact_at : List ℕ → ℕ → ℤ → ℤ → ℕ
 compact_at compact x dy dx = get_or compact (compact_bytes * nat_abs (pos 2 +ℤ dy) + nat_abs (pos (x + 2) +ℤ dx)) 0
 
--- `lumaTap` and `chromaSum` of luma that is gathered
+-- `luma_tap` and `chroma_sum` of luma that is gathered
 abbrev pub compact_tap : (ℤ → ℤ → ℕ) → (ℕ → ℤ) → ℕ → ℤ
 compact_tap l c k = (pos (l (dy_of ns_config_uv_from_y k) (dx_of ns_config_uv_from_y k)) -ℤ pos (centre l)) *ℤ c (6 + k)
 
