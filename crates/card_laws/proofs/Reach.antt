@@ -1,5 +1,5 @@
 -- A reading goes only so far behind the place where it starts, and only what stands that far decides it: `Local`, shown once for each way of putting readings
--- together. So a unit goes at most `unitBytes` behind its place, and one byte more decides what a whole input means.
+-- together. So a unit goes at most `unit_bytes` behind its place, and one byte more decides what a whole input means.
 use mathlib.Core.Path.{◌≡◌, refl, ap, ◌∙◌}
 use mathlib.Core.Bool.{Bool, true, false, cond, not}
 use mathlib.Core.List.{List, [], ◌∷◌, ◌++◌}
@@ -234,7 +234,7 @@ module _ (n : ℕ) (s t : List ℕ) (alike : (i : ℕ) → i < n → input_at s 
 pub unit-alike : (n : ℕ) (s t : List ℕ) → ((i : ℕ) → i < n → input_at s i ≡ input_at t i) → (at : ℕ) → at + unit_bytes ≤ n → unit_at s at ≡ unit_at t at
 unit-alike n s t alike at all = (unit-agree n s t alike at all).same
 
--- WHAT DECIDES A CARD: the first n bytes of an input, n above `unitBytes`
+-- WHAT DECIDES A CARD: the first n bytes of an input, n above `unit_bytes`
 pub enough : (n : ℕ) (s : List ℕ) → unit_bytes < n → meaning (take n s) ≡ meaning s
 unfolding meaning
 enough n s h = go (leb (length s) n) refl

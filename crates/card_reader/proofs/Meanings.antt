@@ -1,4 +1,4 @@
--- What a unit at a place means, by what each of its lines was found to be: the steps of `unit_at` and `listsAt`, in their order; and whether a card ends there.
+-- What a unit at a place means, by what each of its lines was found to be: the steps of `unit_at` and `lists_at`, in their order; and whether a card ends there.
 use mathlib.Core.Path.{◌≡◌, refl, sym, ap, ◌∙◌}
 use mathlib.Core.Bool.{true, false}
 use mathlib.Core.List.{List, ◌++◌}

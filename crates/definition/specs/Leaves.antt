@@ -48,7 +48,7 @@ abbrev pub served : ℕ → ℕ → ℕ
 served zero n = n
 served (suc status) n = 0
 
--- THE CLASS INDEX of a block whose features are given: as `classStatus` has it of rows that lie inside. A place that is no block's of a unit gives 12.
+-- THE CLASS INDEX of a block whose features are given: as `class_status` has it of rows that lie inside. A place that is no block's of a unit gives 12.
 abbrev pub bad_place : ℕ → ℕ → ℕ → Bool
 bad_place bx by bh = ltb last_column bx || ltb block_row_limit bh || leb bh by
 

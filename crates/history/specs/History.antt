@@ -1,5 +1,5 @@
 -- A unit that is restored in many advances, whatever its operation: its events, its histories, and what holds after one. That it holds is `holds` in
--- proofs/Lawful.antt, and of every operation `demand-3` in the crate claims.
+-- proofs/Lawful.antt, and of every operation `demand_3` in the crate claims.
 use Rattle.std.specs.Prelude.{◌≡◌, Bool, true, cond, ◌&&◌, List, ◌≢◌, ℕ, ◌+◌, ◌≤◌, ◌<◌, min, length, get_or, set, eqb, leb}
 
 -- what an operation hands back

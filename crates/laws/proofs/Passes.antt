@@ -1,4 +1,4 @@
--- What tests that hold or fail together say; and tests over the first n of a list (`firstPass`): a loop that stops at the first that fails, and what a passed test says of each.
+-- What tests that hold or fail together say; and tests over the first n of a list (`first_pass`): a loop that stops at the first that fails, and what a passed test says of each.
 use mathlib.Core.Path.{◌≡◌, refl, sym}
 use mathlib.Core.Bool.{Bool, true, false, cond, ◌&&◌, ◌||◌, and-false}
 use mathlib.Core.List.{List}

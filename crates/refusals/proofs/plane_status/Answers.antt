@@ -1,4 +1,4 @@
--- `refusals::plane_status` meets its contract: the tests are those of `planeStatus`, in its order; sides within their limits keep every product small.
+-- `refusals::plane_status` meets its contract: the tests are those of `plane_status`, in its order; sides within their limits keep every product small.
 use mathlib.Core.Path.{◌≡◌, sym, ◌∙◌}
 use mathlib.Core.Bool.{true, false}
 use Prim.Native.Nat.{◌*◌}
