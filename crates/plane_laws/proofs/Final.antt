@@ -2,9 +2,9 @@
 use mathlib.Core.Path.{◌≡◌, refl, sym, ◌∙◌, ap}
 use mathlib.Core.Bool.{cond}
 use mathlib.Core.List.{List}
-use Prim.Native.Nat.{ℕ, ◌+◌, ◌-◌, ◌*◌, ◌/◌, ◌≤◌, ◌<◌}
+use Prim.Native.Nat.{ℕ, ◌+◌, ◌*◌, ◌/◌, ◌≤◌, ◌<◌}
 use native.Mathlib.Omega.{arith}
-use lib.IntN.{ℤ, pos, ◌+ℤ◌, +ℤ_assoc}
+use lib.IntN.{pos, ◌+ℤ◌, +ℤ_assoc}
 use lib.ListN.{get_or}
 use Rattle.definition.specs.Numbers.{bit_set}
 use Rattle.definition.specs.Blocks.{side, mask_at, masked}

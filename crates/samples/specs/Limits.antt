@@ -1,5 +1,5 @@
 -- The table of refusals at its limits (docs/SCOPE.md, 'Refusals'): the status of the definition beside the number that the table gives. One proof that antt computes.
-use Rattle.std.specs.Prelude.{Bool, true, false, cond, not, ◌&&◌, List, [], ◌∷◌, ◌++◌, ◌≡◌, refl, ℕ, ◌+◌, ◌-◌, ◌*◌, ltb, eqb, pos, replicate, set}
+use Rattle.std.specs.Prelude.{Bool, true, cond, not, ◌&&◌, List, [], ◌∷◌, ◌++◌, ◌≡◌, refl, ℕ, ◌+◌, ◌-◌, ◌*◌, ltb, eqb, pos, replicate, set}
 use Rattle.definition.specs.declared.Operation.{Operation}
 use Rattle.definition.specs.declared.Operation.TheVariants.{Luma, User, Pretrained, Chroma}
 use Rattle.definition.specs.declared.Given.{Given}

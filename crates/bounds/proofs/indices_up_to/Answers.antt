@@ -1,14 +1,10 @@
 -- `bounds::indices_up_to` meets its contract: the indices before k passed.
-use mathlib.Core.Path.{◌≡◌, sym}
-use mathlib.Core.Bool.{true}
-use Prim.Native.Nat.{◌-◌, ◌≤◌}
+use mathlib.Core.Path.{sym}
 use native.Mathlib.Omega.{arith}
 use lib.Dec.{leb}
 use lib.ListN.{get_or}
-use borrow.Author.Rules.{rules}
 use borrow.Author.Tests.{lt-leb, le-leb}
 use Rattle.definition.specs.Rows.{index_count}
-use Rattle.definition.specs.Refusals.{first_pass}
 use Rattle.laws.proofs.Passes.{pass_none, pass_more, pass_fails}
 use Rattle.bounds.proofs.indices_up_to.Goals as goal
 

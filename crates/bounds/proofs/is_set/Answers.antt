@@ -5,7 +5,6 @@ use native.Mathlib.Nat.{zero-add}
 use native.Mathlib.Decide.{dec_lt}
 use native.Mathlib.Omega.{arith}
 use lib.Pow.{pow-lt, shr_lt}
-use borrow.Author.Rules.{rules}
 use Rattle.bounds.proofs.is_set.Goals as goal
 
 below : (m k : ℕ) → m < 2 ^ 64 → 64 ≤ k → m < 2 ^ k
