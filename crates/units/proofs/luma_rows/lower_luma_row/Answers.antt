@@ -30,3 +30,23 @@ pub returns : goal.returns
 returns c =
     c.plane_row-2.ensures ∙
     last-is _ _ c.args.y (omega arith) (bit_is c.is_set.ensures c.if-is_set.false) (bit_is c.is_set-2.ensures c.if-is_set-2.false)
+
+pub plane_row-requires-clause-luma_fits : goal.plane_row-requires-clause-luma_fits
+plane_row-requires-clause-luma_fits c =
+    plane_fits c.requires.luma_plane_lies.0 c.args.y (omega arith)
+
+pub row_from-requires-clause-luma_fits : goal.row_from-requires-clause-luma_fits
+row_from-requires-clause-luma_fits c =
+    bottom-two_fits c.requires.luma_plane_lies.0 c.requires.luma_plane_lies.1 (bit_is c.is_set.ensures c.if-is_set.false) (bit_is c.is_set-2.ensures c.if-is_set-2.true)
+
+pub plane_row-requires-2-clause-luma_fits : goal.plane_row-requires-2-clause-luma_fits
+plane_row-requires-2-clause-luma_fits c =
+    plane_fits c.requires.luma_plane_lies.0 (c.args.g.h - 1) (omega (arith, c.requires.luma_plane_lies.0.tall.low))
+
+pub plane_row-requires-then-is_set-clause-luma_fits : goal.plane_row-requires-then-is_set-clause-luma_fits
+plane_row-requires-then-is_set-clause-luma_fits c =
+    plane_fits c.requires.luma_plane_lies.0 c.args.y (plane-row Chroma c.args.g.edges c.args.g.h c.requires.y_bound (bit_is c.is_set.ensures c.if-is_set.true))
+
+pub row_from-requires-then-is_set-2-clause-luma_fits : goal.row_from-requires-then-is_set-2-clause-luma_fits
+row_from-requires-then-is_set-2-clause-luma_fits c =
+    bottom_second_fits c.requires.luma_plane_lies.0 c.requires.luma_plane_lies.1 (bit_is c.is_set.ensures c.if-is_set.false) (bit_is c.is_set-2.ensures c.if-is_set-2.true)

@@ -18,13 +18,12 @@ loop-n-init c =
     (omega arith, omega arith, behind-none _ _ _ c.args.rows.now (replicate (5 * luma_row_bytes) 0) luma_rows_at c.first_row-n.result c.requires.rows_value (omega arith))
 
 pub loop-n-preserved : goal.loop-n-preserved
-loop-n-preserved c =
-    (
-      omega arith,
-      omega arith,
-      behind_more _ _ _ c.args.rows.now (replicate (5 * luma_row_bytes) 0) luma_rows_at c.loop-n.n (front-size c.args.rows.now luma_rows_at (5 * luma_row_bytes) c.requires.rows_value (omega arith)) (omega arith) c.loop-n.invariant.2
-          c.pad_luma_row.ensures,
-    )
+loop-n-preserved c = (
+  omega arith,
+  omega arith,
+  behind_more _ _ _ c.args.rows.now (replicate (5 * luma_row_bytes) 0) luma_rows_at c.loop-n.n (front-size c.args.rows.now luma_rows_at (5 * luma_row_bytes) c.requires.rows_value (omega arith)) (omega arith) c.loop-n.invariant.2
+      c.pad_luma_row.ensures,
+)
 
 pub returns : goal.returns
 returns c =

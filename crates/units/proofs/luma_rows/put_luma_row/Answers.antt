@@ -12,10 +12,10 @@ use Rattle.units.proofs.luma_rows.put_luma_row.Goals as goal
 
 pub loop-j-preserved : goal.loop-j-preserved
 loop-j-preserved c =
-    (omega arith, rw c.loop-j.invariant.1 (sets_more c.loop-j.j c.args.rows.now (luma_rows_at + c.args.slot * luma_row_bytes) (λ k. get_or c.args.t3 k 0)))
+    (omega arith, rw c.loop-j.invariant.1 (sets_more c.loop-j.j c.args.rows.now (luma_rows_at + c.args.slot * luma_row_bytes) (λ k. get_or c.args.row k 0)))
 
 pub returns : goal.returns
 returns c =
     let e : c.loop-j.j ≡ luma_row_bytes = omega arith in
-    let n : length c.args.t3 ≡ luma_row_bytes = search rules in
-    (rw e at c.loop-j.invariant.1) ∙ ap (sets c.args.rows.now (luma_rows_at + c.args.slot * luma_row_bytes)) (tab-same luma_row_bytes c.args.t3 n)
+    let n : length c.args.row ≡ luma_row_bytes = search rules in
+    (rw e at c.loop-j.invariant.1) ∙ ap (sets c.args.rows.now (luma_rows_at + c.args.slot * luma_row_bytes)) (tab-same luma_row_bytes c.args.row n)

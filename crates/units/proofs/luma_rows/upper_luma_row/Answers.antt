@@ -33,3 +33,23 @@ pub returns : goal.returns
 returns c =
     let a = bit_is c.is_set.ensures c.if-is_set.false in
     c.row_from-2.ensures ∙ top-two-is _ _ c.args.r (omega arith) a (saved_top c.args.g c.requires.g_bound.0 c.requires.g_bound.1 a) (omega (arith, ver-low c.requires.luma_plane_lies.0))
+
+pub row_from-requires-clause-luma_fits : goal.row_from-requires-clause-luma_fits
+row_from-requires-clause-luma_fits c =
+    let e = steps_are (2 - c.args.r) c.args.g.ss_ver (ver-low c.requires.luma_plane_lies.0) c.luma_step.ensures.0 in
+    rw e (back_fits c.requires.luma_plane_lies.0 (bit_is c.is_set.ensures c.if-is_set.true) (2 - c.args.r) (omega arith) (omega arith))
+
+pub row_from-requires-2-clause-luma_fits : goal.row_from-requires-2-clause-luma_fits
+row_from-requires-2-clause-luma_fits c =
+    let a = bit_is c.is_set.ensures c.if-is_set.false in
+    top-two_fits c.requires.luma_plane_lies.0 c.requires.luma_plane_lies.1 a (saved_top c.args.g c.requires.g_bound.0 c.requires.g_bound.1 a)
+
+pub row_from-requires-then-r-eq0-clause-luma_fits : goal.row_from-requires-then-r-eq0-clause-luma_fits
+row_from-requires-then-r-eq0-clause-luma_fits c =
+    let a = bit_is c.is_set.ensures c.if-is_set.false in
+    top-first_fits c.requires.luma_plane_lies.0 c.requires.luma_plane_lies.1 a (saved_top c.args.g c.requires.g_bound.0 c.requires.g_bound.1 a)
+
+pub row_from-requires-then-g-eq0-clause-luma_fits : goal.row_from-requires-then-g-eq0-clause-luma_fits
+row_from-requires-then-g-eq0-clause-luma_fits c =
+    let a = bit_is c.is_set.ensures c.if-is_set.false in
+    top_second_fits c.requires.luma_plane_lies.0 c.requires.luma_plane_lies.1 a (saved_top c.args.g c.requires.g_bound.0 c.requires.g_bound.1 a) (omega arith)

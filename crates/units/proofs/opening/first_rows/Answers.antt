@@ -19,3 +19,8 @@ pub returns : goal.returns
 returns c =
     first_rows c.args.op (chroma_lent c.args.left.now c.args.top.now c.args.bottom.now [] c.args.luma.now c.args.luma_top.now c.args.luma_bottom.now [])
     (sym c.is_chroma.ensures ∙ c.if-is_chroma.false) c.args.g c.args.p.now c.open_rows-rows.ensures
+
+pub open_luma_rows-requires-clause-rows_value : goal.open_luma_rows-requires-clause-rows_value
+open_luma_rows-requires-clause-rows_value c =
+    let k = sym c.is_chroma.ensures ∙ c.if-is_chroma.true in
+    blank-behind c.args.left.now c.args.top.now c.args.bottom.now c.args.g c.args.p.now (rw (chroma_is c.args.op k) at c.open_rows-rows.ensures)

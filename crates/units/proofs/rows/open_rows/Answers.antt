@@ -12,18 +12,16 @@ use Rattle.units.proofs.rows.open_rows.Goals as goal
 
 pub loop-n-init : goal.loop-n-init
 unfolding filled
-loop-n-init c =
-    (
-      omega arith,
-      omega (arith, first-low c.args.op c.args.g),
-      sym (filled_none _ _ _ _ c.first_row-n.result (omega arith)),
-    )
+loop-n-init c = (
+  omega arith,
+  omega (arith, first-low c.args.op c.args.g),
+  sym (filled_none _ _ _ _ c.first_row-n.result (omega arith)),
+)
 
 pub loop-n-preserved : goal.loop-n-preserved
 unfolding filled
-loop-n-preserved c =
-    (
-      omega arith,
-      omega arith,
-      c.pad_row.ensures ∙ rw c.loop-n.invariant.2 (sym (filled_more _ _ _ _ c.loop-n.n (omega arith))),
-    )
+loop-n-preserved c = (
+  omega arith,
+  omega arith,
+  c.pad_row.ensures ∙ rw c.loop-n.invariant.2 (sym (filled_more _ _ _ _ c.loop-n.n (omega arith))),
+)

@@ -12,10 +12,10 @@ use Rattle.units.proofs.rows.put_row.Goals as goal
 
 pub loop-j-preserved : goal.loop-j-preserved
 loop-j-preserved c =
-    (omega arith, rw c.loop-j.invariant.1 (sets_more c.loop-j.j c.args.rows.now (c.args.slot * row_bytes) (λ k. get_or c.args.t3 k 0)))
+    (omega arith, rw c.loop-j.invariant.1 (sets_more c.loop-j.j c.args.rows.now (c.args.slot * row_bytes) (λ k. get_or c.args.row k 0)))
 
 pub returns : goal.returns
 returns c =
     let e : c.loop-j.j ≡ row_bytes = omega arith in
-    let n : length c.args.t3 ≡ row_bytes = search rules in
-    (rw e at c.loop-j.invariant.1) ∙ ap (sets c.args.rows.now (c.args.slot * row_bytes)) (tab-same row_bytes c.args.t3 n)
+    let n : length c.args.row ≡ row_bytes = search rules in
+    (rw e at c.loop-j.invariant.1) ∙ ap (sets c.args.rows.now (c.args.slot * row_bytes)) (tab-same row_bytes c.args.row n)
