@@ -1,24 +1,16 @@
 -- `classed::class_of` meets its contract: the call for the index is not refused, and the index is below the map's size.
 use mathlib.Core.Path.{◌≡◌, ◌∙◌, ap}
-use Prim.Native.Nat.{ℕ, ◌*◌, ◌<◌}
+use Prim.Native.Nat.{ℕ, ◌*◌}
 use lib.IntN.{ℤ}
 use lib.ListN.{length, get_or}
 use mir.Facts.{to_z-of_z}
-use Rattle.definition.specs.Limits.{map_size}
 use Rattle.definition.specs.ClassIndex.{skip_sum, index_of}
-use Rattle.units.proofs.Classes.{index-low, placed_is, placed_low, entry_low}
-use borrow.Author.Rules.{rules}
+use Rattle.units.proofs.Classes.{index-low, placed_is, placed_low}
 use Rattle.units.proofs.classed.class_of.Goals as goal
-
--- the index that was answered
-low : (c : tie.After-class-of-features) → c.class-of-features.result.index < map_size
-low c =
-    let a = c.before.before.before.before.args in
-    rw c.class-of-features.ensures.1 (placed_low (length a.noskip.now) a.bx a.by a.bh _ (index-low _ _ _ _ _))
 
 pub bounds-map-index : goal.bounds-map-index
 bounds-map-index c =
-    rw c.requires.map_len.0 (low c)
+    rw (c.requires.map_len.0, c.class_of_features-found.ensures.index_value) (placed_low (length c.args.noskip.now) c.args.bx c.args.by c.args.bh _ (index-low _ _ _ _ _))
 
 pub returns : goal.returns
 returns c =

@@ -1,9 +1,9 @@
 -- `classed::classes_of_row` meets its contract. The loop's invariant: the classes of the blocks before bx are stored.
 use mathlib.Core.Path.{◌≡◌, refl, ◌∙◌, ap}
-use Prim.Native.Nat.{ℕ, ◌-◌, ◌*◌, ◌/◌, ◌≤◌, ◌<◌}
+use Prim.Native.Nat.{ℕ, ◌*◌, ◌/◌, ◌≤◌}
 use native.Mathlib.Nat.{zero-add}
 use native.Mathlib.Omega.{arith}
-use lib.IntN.{ℤ, pos, negsuc}
+use lib.IntN.{ℤ}
 use lib.ListN.{length, get_or}
 use lib.Seq.{sets}
 use mir.Syntax.{w32}
@@ -13,7 +13,6 @@ use Rattle.definition.specs.Blocks.{side}
 use Rattle.definition.specs.Limits.{block_column_limit}
 use Rattle.definition.specs.Rows.{tab, state_bytes}
 use Rattle.definition.specs.ClassIndex.{skip_sum, index_of}
-use Rattle.definition.specs.Leaves.{feature_at}
 use Rattle.laws.proofs.Lists.{sets_more, tab_cong}
 use Rattle.units.specs.Lent.{class_lent}
 use Rattle.units.proofs.Classes.{class_by, class_is, feature-at}
@@ -33,20 +32,20 @@ loop-bx-init c =
 
 pub loop-bx-preserved : goal.loop-bx-preserved
 loop-bx-preserved c =
-    let f = class_by c.args.rows.now c.args.indices.now c.args.noskip.now c.args.base_q c.args.map.now c.args.subclass.now (c.args.done / side) (c.args.g.h / side) in
+    let f = class_by c.args.rows.now c.args.indices.now c.args.noskip.now (to_z w32 (of_z w32 c.args.base_q)) c.args.map.now c.args.subclass.now (c.args.done / side) (c.args.g.h / side) in
     let v = c.loop-bx.invariant.2 c.loop-bx.bx c.loop-bx-test.true in
     let d = c.loop-bx.invariant.3 c.loop-bx.bx c.loop-bx-test.true in
     let r = c.loop-bx.invariant.4 c.loop-bx.bx c.loop-bx-test.true in
     let e = c.class_of.ensures ∙
     (λ i.
     get_or c.args.subclass.now
-    (get_or c.args.map.now (index_of (v i) (d i) (r i) c.args.base_q (7 * skip_sum c.args.noskip.now (c.args.g.h / side) c.loop-bx.bx (c.args.done / side))) 0) 0) in
+    (get_or c.args.map.now (index_of (v i) (d i) (r i) (to_z w32 (of_z w32 c.args.base_q)) (7 * skip_sum c.args.noskip.now (c.args.g.h / side) c.loop-bx.bx (c.args.done / side))) 0) 0) in
     (omega arith, rw (c.loop-bx.invariant.1, e) (rw (zero-add c.loop-bx.bx) at (sets_more c.loop-bx.bx c.args.classes.now 0 f)), c.loop-bx.invariant.2, c.loop-bx.invariant.3, c.loop-bx.invariant.4)
 
 pub returns : goal.returns
 returns c =
     let e : c.loop-bx.bx ≡ c.args.g.w / side = omega arith in
-    let q-is : c.args.base_q ≡ c.args.base_q = to_z-of_z c.ranges.base_q in
+    let q-is : to_z w32 (of_z w32 c.args.base_q) ≡ c.args.base_q = to_z-of_z c.ranges.base_q in
     let f : ℤ → ℕ → ℕ = λ q. class_by c.args.rows.now c.args.indices.now c.args.noskip.now q c.args.map.now c.args.subclass.now (c.args.done / side) (c.args.g.h / side) in
     c.loop-bx.invariant.1 ∙
     (λ i. sets c.args.classes.now 0 (tab (e i) (f (q-is i)))) ∙

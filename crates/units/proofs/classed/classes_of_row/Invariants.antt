@@ -1,23 +1,12 @@
 -- `classed::classes_of_row` meets its contract. The loop's invariant: the classes of the blocks before bx are stored.
-use mathlib.Core.Path.{◌≡◌, refl, ◌∙◌, ap}
-use Prim.Native.Nat.{ℕ, ◌-◌, ◌*◌, ◌/◌, ◌≤◌, ◌<◌}
-use native.Mathlib.Nat.{zero-add}
-use native.Mathlib.Omega.{arith}
-use lib.IntN.{ℤ, pos, negsuc}
-use lib.ListN.{length, get_or}
+use mathlib.Core.Path.{◌≡◌}
+use Prim.Native.Nat.{ℕ, ◌-◌, ◌≤◌, ◌<◌}
+use lib.IntN.{pos, negsuc}
+use lib.ListN.{get_or}
 use lib.Seq.{sets}
-use mir.Syntax.{w32}
-use mir.Val.{to_z, of_z}
-use mir.Facts.{to_z-of_z}
-use Rattle.definition.specs.Blocks.{side}
-use Rattle.definition.specs.Limits.{block_column_limit}
-use Rattle.definition.specs.Rows.{tab, state_bytes}
-use Rattle.definition.specs.ClassIndex.{skip_sum, index_of}
+use Rattle.definition.specs.Rows.{tab}
 use Rattle.definition.specs.Leaves.{feature_at}
-use Rattle.laws.proofs.Lists.{sets_more, tab_cong}
-use Rattle.units.specs.Lent.{class_lent}
-use Rattle.units.proofs.Classes.{class_by, class_is, feature-at}
-use Rattle.model.proofs.Step.{ring, class_at}
+use Rattle.units.proofs.Classes.{class_by}
 use Rattle.units.proofs.classed.classes_of_row.Given as goal
 
 abbrev pub invariant-loop-bx : goal.invariant-loop-bx

@@ -1,21 +1,12 @@
 -- `restore::restore` meets its contract: the blocks below bx are done. Those before the next stretch are masked and stay; the stretch is one run under its class's set.
-use mathlib.Core.Path.{sym, ◌∙◌, ap}
-use mathlib.Core.Bool.{cond}
 use mathlib.Core.List.{List}
-use Prim.Native.Nat.{ℕ, ◌+◌, ◌-◌, ◌/◌, ◌≤◌}
-use native.Mathlib.Omega.{arith}
+use Prim.Native.Nat.{ℕ, ◌-◌, ◌≤◌}
 use lib.IntN.{ℤ}
-use lib.ListN.{get_or}
-use lib.Seq.{sets}
 use Rattle.definition.specs.declared.Operation.{Operation}
-use Rattle.definition.specs.Blocks.{side, masked}
 use Rattle.definition.specs.Sample.{limit8}
-use Rattle.laws.proofs.Lists.{tab_cong}
 use Rattle.definition.specs.Calls.{filters_of}
-use Rattle.model.proofs.Cells.{unmasked, set_for, unmasked_cell, cell_of}
-use Rattle.units.proofs.Firsts.{ClassStretch, class_stretch, all-kept}
-use Rattle.units.proofs.Samples.{told_sets, told_cells}
-use Rattle.units.proofs.Stretches.{Done, none_done, kept_more, run_more, row_done}
+use Rattle.model.proofs.Cells.{unmasked_cell}
+use Rattle.units.proofs.Stretches.{Done}
 use Rattle.units.proofs.restore.restore.Given as goal
 
 -- sample x of the row in a block that is not masked

@@ -1,10 +1,6 @@
 -- `restore::sixteen` meets its contract: after k turns the first k numbers are copied.
-use mathlib.Core.Path.{refl}
 use Prim.Native.Nat.{◌-◌}
-use native.Mathlib.Omega.{arith}
-use mir.Syntax.{w8}
-use mir.Facts.{to_z-of_z}
-use Rattle.units.proofs.Copies.{Copied, none_copied, one_copied, all_copied}
+use Rattle.units.proofs.Copies.{Copied}
 use Rattle.units.proofs.restore.sixteen.Given as goal
 
 abbrev pub invariant-loop-k : goal.invariant-loop-k
