@@ -1,16 +1,7 @@
 -- `advance::restored_rows` meets its contract. The loop's invariant: the plane, the rings and the classes are those after i rows.
-use mathlib.Core.Path.{◌≡◌}
 use Prim.Native.Nat.{ℕ, ◌+◌, ◌-◌, ◌≤◌}
-use native.Mathlib.Omega.{arith}
-use lib.IntN.{ℤ}
 use lib.ListN.{length}
-use mir.Syntax.{w32}
-use mir.Val.{to_z, of_z}
-use mir.Facts.{to_z-of_z}
-use Rattle.definition.specs.Units.{Lent}
-use Rattle.units.specs.declared.State.{State}
 use Rattle.definition.specs.Calls.{filters_of, unit_lent}
-use Rattle.units.proofs.Advances.{gone-first, gone-row}
 use Rattle.units.specs.Windows.{Sound}
 use Rattle.model.proofs.Step.{ring}
 use Rattle.units.specs.Step.{state_at, Gone}
