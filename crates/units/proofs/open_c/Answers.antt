@@ -1,6 +1,5 @@
 -- `units::open_c` meets its contract: the opening of its operation.
 use lib.IntN.{pos}
-use borrow.Author.Rules.{rules}
 use Rattle.units.proofs.open_c.Goals as goal
 
 pub returns : goal.returns

@@ -1,5 +1,4 @@
 -- `units::open_n` meets its contract: the opening of its operation.
-use borrow.Author.Rules.{rules}
 use Rattle.units.proofs.open_n.Goals as goal
 
 pub returns : goal.returns

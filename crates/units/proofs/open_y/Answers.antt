@@ -1,6 +1,5 @@
 -- `units::open_y` meets its contract: the opening of its operation.
 use lib.IntN.{pos}
-use borrow.Author.Rules.{rules}
 use Rattle.units.proofs.open_y.Goals as goal
 
 pub returns : goal.returns

@@ -1,12 +1,8 @@
 -- `units::chroma::slide_both` meets its contract. The loop's invariant: j indices of each ring are slid.
-use mathlib.Core.Path.{◌≡◌, sym}
-use mathlib.Core.List.{◌++◌}
-use Prim.Native.Nat.{◌-◌, ◌≤◌}
+use mathlib.Core.Path.{◌≡◌}
 use native.Mathlib.Omega.{arith}
-use lib.ListN.{length, take, drop, take-append-drop}
+use lib.ListN.{length, take, drop}
 use lib.Seq.{length-take-le}
-use borrow.Author.Rules.{rules}
-use Rattle.history.proofs.Ring.{slid}
 use Rattle.units.proofs.TwoRings.{both-slid}
 use Rattle.units.proofs.chroma.slide_both.Goals as goal
 

@@ -1,13 +1,9 @@
 -- `units::chroma::slide_both` meets its contract. The loop's invariant: j indices of each ring are slid.
-use mathlib.Core.Path.{◌≡◌, sym}
+use mathlib.Core.Path.{◌≡◌}
 use mathlib.Core.List.{◌++◌}
 use Prim.Native.Nat.{◌-◌, ◌≤◌}
-use native.Mathlib.Omega.{arith}
-use lib.ListN.{length, take, drop, take-append-drop}
-use lib.Seq.{length-take-le}
-use borrow.Author.Rules.{rules}
+use lib.ListN.{take, drop}
 use Rattle.history.proofs.Ring.{slid}
-use Rattle.units.proofs.TwoRings.{both-slid}
 use Rattle.units.proofs.chroma.slide_both.Given as goal
 
 abbrev pub invariant-loop-j : goal.invariant-loop-j

@@ -2,10 +2,9 @@
 use mathlib.Core.Path.{◌∙◌}
 use Prim.Native.Nat.{◌-◌}
 use native.Mathlib.Omega.{arith}
-use borrow.Author.Rules.{rules}
 use Rattle.definition.specs.declared.Operation.TheVariants.{Chroma}
 use Rattle.units.proofs.Edges.{bit_is, plane-row}
-use Rattle.units.proofs.LumaSources.{ver-low, at-inside, plane_fits, bottom-two_fits, bottom_second_fits, own_is, plane-is, last-is, bottom-two-is, bottom_second_is}
+use Rattle.units.proofs.LumaSources.{plane_fits, bottom-two_fits, bottom_second_fits, own_is, plane-is, last-is, bottom-two-is, bottom_second_is}
 use Rattle.units.proofs.luma_rows.lower_luma_row.Goals as goal
 
 pub returns-then-y-g : goal.returns-then-y-g

@@ -1,15 +1,9 @@
 -- `units::luma_rows::open_luma_rows` meets its contract. The loop's invariant: the rows before n are filled, behind the chroma rows as they were.
 use mathlib.Core.Path.{◌≡◌}
-use mathlib.Core.List.{◌++◌}
-use Prim.Native.Nat.{◌-◌, ◌≤◌, ◌*◌}
+use Prim.Native.Nat.{◌*◌}
 use native.Mathlib.Omega.{arith}
-use lib.ListN.{take, replicate}
+use lib.ListN.{replicate}
 use Rattle.definition.specs.Rows.{luma_row_bytes, luma_rows_at}
-use Rattle.definition.specs.declared.Operation.TheVariants.{Chroma}
-use Rattle.model.proofs.Rows.{first_row}
-use Rattle.model.proofs.Opening.{filled_rows}
-use Rattle.model.proofs.LumaRows.{luma_pad_row}
-use Rattle.units.specs.Lent.{luma_rows_lent}
 use Rattle.units.proofs.TwoLists.{front-size, behind-none, behind_more}
 use Rattle.units.proofs.luma_rows.open_luma_rows.Goals as goal
 

@@ -2,7 +2,6 @@
 use mathlib.Core.Path.{◌≡◌}
 use mathlib.Core.List.{◌++◌}
 use Prim.Native.Nat.{◌-◌, ◌≤◌, ◌*◌}
-use native.Mathlib.Omega.{arith}
 use lib.ListN.{take, replicate}
 use Rattle.definition.specs.Rows.{luma_row_bytes, luma_rows_at}
 use Rattle.definition.specs.declared.Operation.TheVariants.{Chroma}
@@ -10,7 +9,6 @@ use Rattle.model.proofs.Rows.{first_row}
 use Rattle.model.proofs.Opening.{filled_rows}
 use Rattle.model.proofs.LumaRows.{luma_pad_row}
 use Rattle.units.specs.Lent.{luma_rows_lent}
-use Rattle.units.proofs.TwoLists.{front-size, behind-none, behind_more}
 use Rattle.units.proofs.luma_rows.open_luma_rows.Given as goal
 
 abbrev pub invariant-loop-n : goal.invariant-loop-n

@@ -1,12 +1,8 @@
 -- `units::luma_rows::plane_row` meets its contract: the rows are counted in luma's.
-use mathlib.Core.Path.{◌∙◌, ap}
-use Prim.Native.Nat.{ℕ, ◌+◌, ◌*◌, ◌≤◌}
-use native.Mathlib.Nat.{mul-le-mul}
+use Prim.Native.Nat.{◌+◌, ◌*◌, ◌≤◌}
 use native.Mathlib.Omega.{arith}
 use lib.ListN.{length}
-use borrow.Author.Rules.{rules}
 use Rattle.operations.proofs.Borders.{steps_are}
-use Rattle.units.specs.LumaFrom.{luma_from}
 use Rattle.units.proofs.LumaSources.{at-inside}
 use Rattle.units.proofs.luma_rows.plane_row.Goals as goal
 

@@ -1,11 +1,11 @@
 -- `units::luma_rows::put_luma_row` meets its contract. The loop's invariant: the first j bytes of the row are stored.
-use mathlib.Core.Path.{◌≡◌, refl, ◌∙◌, ap}
-use Prim.Native.Nat.{◌+◌, ◌*◌, ◌-◌, ◌≤◌}
+use mathlib.Core.Path.{◌≡◌, ◌∙◌, ap}
+use Prim.Native.Nat.{◌+◌, ◌*◌}
 use native.Mathlib.Omega.{arith}
 use lib.ListN.{length, get_or}
 use lib.Seq.{sets}
 use borrow.Author.Rules.{rules}
-use Rattle.definition.specs.Rows.{tab, luma_row_bytes, luma_rows_at}
+use Rattle.definition.specs.Rows.{luma_row_bytes, luma_rows_at}
 use Rattle.laws.proofs.Lists.{sets_more}
 use Rattle.units.proofs.Rings.{tab-same}
 use Rattle.units.proofs.luma_rows.put_luma_row.Goals as goal

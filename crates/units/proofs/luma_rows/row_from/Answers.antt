@@ -1,8 +1,5 @@
 -- `units::luma_rows::row_from` meets its contract: the padding is not refused.
 use mathlib.Core.Path.{◌∙◌}
-use native.Mathlib.Nat.{mul-le-mul}
-use native.Mathlib.Omega.{arith}
-use borrow.Author.Rules.{rules}
 use Rattle.operations.proofs.Borders.{steps_are}
 use Rattle.units.proofs.LumaSources.{from-served}
 use Rattle.units.proofs.luma_rows.row_from.Goals as goal

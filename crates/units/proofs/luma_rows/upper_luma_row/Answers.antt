@@ -1,13 +1,11 @@
 -- `units::luma_rows::upper_luma_row` meets its contract: for each of the four sources, `LumaSources` has that it lies inside and that it is the definition's row.
 use mathlib.Core.Path.{◌∙◌, ap}
-use Prim.Native.Nat.{ℕ, ◌*◌, ◌-◌, ◌≤◌}
-use native.Mathlib.Nat.{mul-le-mul}
+use Prim.Native.Nat.{ℕ, ◌*◌, ◌-◌}
 use native.Mathlib.Omega.{arith}
-use borrow.Author.Rules.{rules}
 use Rattle.operations.proofs.Borders.{steps_are}
 use Rattle.units.specs.LumaFrom.{luma_from}
 use Rattle.units.proofs.Edges.{bit_is}
-use Rattle.units.proofs.LumaSources.{ver-low, at-inside, back_low, back_fits, top-two_fits, top-first_fits, top_second_fits, back_is, top-first-is, top_second_is, top-two-is, saved_top}
+use Rattle.units.proofs.LumaSources.{ver-low, back_low, back_fits, top-two_fits, top-first_fits, top_second_fits, back_is, top-first-is, top_second_is, top-two-is, saved_top}
 use Rattle.units.proofs.luma_rows.upper_luma_row.Goals as goal
 
 pub returns-then-is_set : goal.returns-then-is_set

@@ -1,11 +1,8 @@
 -- `masks::pieces_of_rows` meets its contract. The loop's invariant: the pieces of i rows, at most 16 to a row.
-use mathlib.Core.Path.{◌≡◌, sym, ◌∙◌}
-use Prim.Native.Nat.{◌+◌, ◌*◌, ◌-◌, ◌≤◌}
-use native.Mathlib.Omega.{arith}
-use borrow.Author.Rules.{rules}
+use mathlib.Core.Path.{◌≡◌}
+use Prim.Native.Nat.{◌*◌, ◌-◌, ◌≤◌}
 use Rattle.definition.specs.Limits.{block_column_limit}
-use Rattle.definition.specs.Blocks.{mask_at, clear_below, pieces_of}
-use Rattle.units.proofs.Pieces.{pieces_none, pieces_more, row-pieces, clear-low}
+use Rattle.definition.specs.Blocks.{pieces_of}
 use Rattle.units.proofs.masks.pieces_of_rows.Given as goal
 
 abbrev pub invariant-loop-i : goal.invariant-loop-i

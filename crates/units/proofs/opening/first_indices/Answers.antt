@@ -3,7 +3,6 @@ use Rattle.model.proofs.Opening.{open_ring}
 use mathlib.Core.Path.{sym, ◌∙◌}
 use Rattle.operations.proofs.Chosen.{chroma_is}
 use Rattle.units.proofs.Openings.{first_indices}
-use borrow.Author.Rules.{rules}
 use Rattle.units.proofs.opening.first_indices.Goals as goal
 
 pub returns-then-is_chroma : goal.returns-then-is_chroma

@@ -5,7 +5,6 @@ use mathlib.Core.Path.{sym, ◌∙◌}
 use Rattle.operations.proofs.Chosen.{chroma_is}
 use Rattle.units.proofs.Openings.{first_rows}
 use Rattle.units.proofs.ChromaOpening.{blank-behind, opened}
-use borrow.Author.Rules.{rules}
 use Rattle.units.proofs.opening.first_rows.Goals as goal
 
 pub returns-then-is_chroma : goal.returns-then-is_chroma

@@ -2,7 +2,6 @@
 use mathlib.Core.List.{[]}
 use Rattle.definition.specs.Calls.{chroma_lent}
 use Rattle.units.proofs.Openings.{first-state}
-use borrow.Author.Rules.{rules}
 use Rattle.units.proofs.opening.first_state.Goals as goal
 
 pub returns : goal.returns

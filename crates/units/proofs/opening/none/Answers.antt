@@ -1,5 +1,4 @@
 -- `opening::none` meets its contract: every field is 0.
-use borrow.Author.Rules.{rules}
 use Rattle.units.specs.Openings.{no_state}
 use Rattle.units.proofs.opening.none.Goals as goal
 

@@ -1,13 +1,11 @@
 -- `opening::open` meets its contract: declined, or the state before the first row.
 use mathlib.Core.Path.{sym, ◌∙◌, ap}
-use lib.IntN.{ℤ, pos}
-use Rattle.definition.specs.Units.{Lent}
+use lib.IntN.{pos}
 use Rattle.definition.specs.Refusals.{sizes_of, unit_status}
 use Rattle.model.proofs.Fine.{fine}
 use Rattle.definition.specs.Calls.{unit_lent}
 use Rattle.units.proofs.Fits.{fit}
 use Rattle.units.proofs.Openings.{begun-none, begun_first}
-use borrow.Author.Rules.{rules}
 use Rattle.units.proofs.opening.open.Goals as goal
 
 pub returns-then-status-ne0 : goal.returns-then-status-ne0

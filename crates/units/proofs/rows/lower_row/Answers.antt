@@ -2,9 +2,8 @@
 use mathlib.Core.Path.{◌∙◌}
 use Prim.Native.Nat.{◌-◌}
 use native.Mathlib.Omega.{arith}
-use borrow.Author.Rules.{rules}
 use Rattle.units.proofs.Edges.{bit_is, plane-row, bottom-row}
-use Rattle.units.proofs.Sources.{plane-inside, bottom-inside, own_fits, plane_fits, bottom_fits, own_is, plane-is, bottom-is, last-is}
+use Rattle.units.proofs.Sources.{own_fits, plane_fits, bottom_fits, own_is, plane-is, bottom-is, last-is}
 use Rattle.units.proofs.rows.lower_row.Goals as goal
 
 pub own_row-requires : goal.own_row-requires

@@ -1,13 +1,8 @@
 -- `units::rows::open_rows` meets its contract. The loop's invariant: the rows before n are filled.
-use mathlib.Core.Path.{◌≡◌, sym, ◌∙◌}
-use Prim.Native.Nat.{◌+◌, ◌-◌, ◌≤◌}
+use mathlib.Core.Path.{sym, ◌∙◌}
 use native.Mathlib.Omega.{arith}
-use borrow.Author.Rules.{rules}
-use Rattle.definition.specs.Units.{border}
 use Rattle.model.proofs.Rows.{first-low}
 use Rattle.model.proofs.Opening.{filled, filled_none, filled_more}
-use Rattle.units.specs.Lent.{rows_lent}
-use Rattle.operations.proofs.Borders.{border_high}
 use Rattle.units.proofs.rows.open_rows.Goals as goal
 
 pub loop-n-init : goal.loop-n-init

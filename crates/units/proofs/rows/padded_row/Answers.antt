@@ -2,11 +2,10 @@
 use mathlib.Core.Path.{◌≡◌, ◌∙◌, ap}
 use Prim.Native.Nat.{ℕ, ◌+◌, ◌-◌}
 use native.Mathlib.Omega.{arith}
-use borrow.Author.Rules.{rules}
 use Rattle.definition.specs.Units.{border}
 use Rattle.model.proofs.Rows.{pad_row}
 use Rattle.units.proofs.Openings.{pad_lower}
-use Rattle.units.proofs.Sources.{top-inside, top_fits, top-is}
+use Rattle.units.proofs.Sources.{top_fits, top-is}
 use Rattle.units.proofs.rows.padded_row.Goals as goal
 
 pub saved_row-requires : goal.saved_row-requires

@@ -1,11 +1,11 @@
 -- `units::rows::put_row` meets its contract. The loop's invariant: the first j bytes of the row are stored.
-use mathlib.Core.Path.{◌≡◌, refl, ◌∙◌, ap}
-use Prim.Native.Nat.{◌*◌, ◌-◌, ◌≤◌}
+use mathlib.Core.Path.{◌≡◌, ◌∙◌, ap}
+use Prim.Native.Nat.{◌*◌}
 use native.Mathlib.Omega.{arith}
 use lib.ListN.{length, get_or}
 use lib.Seq.{sets}
 use borrow.Author.Rules.{rules}
-use Rattle.definition.specs.Rows.{tab, row_bytes}
+use Rattle.definition.specs.Rows.{row_bytes}
 use Rattle.laws.proofs.Lists.{sets_more}
 use Rattle.units.proofs.Rings.{tab-same}
 use Rattle.units.proofs.rows.put_row.Goals as goal

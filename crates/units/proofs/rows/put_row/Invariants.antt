@@ -1,13 +1,9 @@
 -- `units::rows::put_row` meets its contract. The loop's invariant: the first j bytes of the row are stored.
-use mathlib.Core.Path.{◌≡◌, refl, ◌∙◌, ap}
-use Prim.Native.Nat.{◌*◌, ◌-◌, ◌≤◌}
-use native.Mathlib.Omega.{arith}
-use lib.ListN.{length, get_or}
+use mathlib.Core.Path.{◌≡◌}
+use Prim.Native.Nat.{◌-◌, ◌≤◌}
+use lib.ListN.{get_or}
 use lib.Seq.{sets}
-use borrow.Author.Rules.{rules}
 use Rattle.definition.specs.Rows.{tab, row_bytes}
-use Rattle.laws.proofs.Lists.{sets_more}
-use Rattle.units.proofs.Rings.{tab-same}
 use Rattle.units.proofs.rows.put_row.Given as goal
 
 abbrev pub invariant-loop-j : goal.invariant-loop-j

@@ -1,10 +1,7 @@
 -- `units::rows::slide` meets its contract. The loop's invariant: j indices are slid.
-use mathlib.Core.Path.{◌≡◌, refl}
+use mathlib.Core.Path.{◌≡◌}
 use Prim.Native.Nat.{◌-◌, ◌≤◌}
-use native.Mathlib.Omega.{arith}
-use borrow.Author.Rules.{rules}
 use Rattle.history.proofs.Ring.{slid}
-use Rattle.units.proofs.Rings.{slid_more}
 use Rattle.units.proofs.rows.slide.Given as goal
 
 abbrev pub invariant-loop-j : goal.invariant-loop-j
