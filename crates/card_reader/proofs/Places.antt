@@ -1,11 +1,12 @@
 -- Laws of single readings.
 use mathlib.Core.Path.{◌≡◌, refl, sym, ap, ◌∙◌, subst}
 use mathlib.Core.Bool.{Bool, true, false, cond}
-use mathlib.Core.List.{List}
+use mathlib.Core.List.{List, [], ◌∷◌}
 use lib.Dec.{ltb, eqb}
-use Prim.Native.Nat.{ℕ, suc, ◌+◌, ◌-◌, ◌≤◌, ◌<◌}
+use Prim.Native.Nat.{ℕ, zero, suc, ◌+◌, ◌-◌, ◌≤◌, ◌<◌}
+use native.Mathlib.Nat.{not-suc-le-zero, le_of_suc-le-suc}
 use native.Mathlib.Omega.{arith}
-use lib.IntN.{ℤ, pos, negsuc}
+use lib.IntN.{ℤ, pos, negsuc, ◌-ℤ◌}
 use lib.ListN.{length, get_or, drop, drop_of_length-le, get_or-eq_default}
 use lib.Seq.{drop-cons}
 use native.Mathlib.Numerals.{add-one}
@@ -19,8 +20,16 @@ use Rattle.card_reader.specs.declared.Tap.{Tap}
 use Rattle.card_reader.specs.declared.Tap.TheVariants.{Value as TapValue, Wrong as TapWrong}
 use Rattle.card_reader.specs.declared.Line.{Line}
 use Rattle.card_reader.specs.declared.Line.TheVariants.{Next, Wrong as LineWrong}
-use mir.Syntax.{w8}
-use mir.Val.{SFits}
+use mir.Syntax.{w8, w16}
+use mir.Val.{SFits, to_z, of_z}
+use mir.Facts.{to_z-of_z, to_z_pos}
+use Rattle.laws.proofs.Ints.{sub_neg}
+
+-- inside a list the default does not matter
+pub get_or-inside {ℓ} : {A : Type ℓ} (l : List A) (i : ℕ) (d e : A) → i < length l → get_or l i d ≡ get_or l i e
+get_or-inside [] i d e h = absurd (not-suc-le-zero h)
+get_or-inside (x ∷ l) zero d e h = refl
+get_or-inside (x ∷ l) (suc i) d e h = get_or-inside l i d e (le_of_suc-le-suc h)
 
 -- THE END OF THE INPUT: past it stands 256, so a byte that was read, or one of which f says what it does not say of 256, stands before it
 module _ {A : Type 0} (f : ℕ → A) (P : A → Type 0) (past : P (f 256) → ⊥) (s : List ℕ) (p : ℕ) {b : ℕ} {a : A} (is : b ≡ input_at s p) (found : a ≡ f b) (holds : P a) where
@@ -40,6 +49,23 @@ module _ (s : List ℕ) (p : ℕ) {b : ℕ} (is : b ≡ input_at s p) where
 
   pub hex_inside : {d : ℕ} → d ≡ hex_of b → d ≤ 15 → p < length s
   hex_inside e h = inside hex_of (λ d. d ≤ 15) (λ k. omega arith) s p is e h
+
+-- v below 0, by way of 16 bits
+module _ (v : ℕ) (low : 0 < v) (high : v ≤ 128) where
+  pub minus_is : pos 0 -ℤ to_z w16 v ≡ negsuc (v - 1)
+  minus_is = let e : to_z w16 v ≡ pos v = to_z_pos w16 (omega arith) in rw e (sub_neg 0 v low)
+
+  pub minus_fits : SFits w16 (pos 0 -ℤ to_z w16 v)
+  minus_fits = rw minus_is (record { sfits = omega arith })
+
+  pub minus-read : to_z w16 (of_z w16 (pos 0 -ℤ to_z w16 v)) ≡ negsuc (v - 1)
+  minus-read = to_z-of_z minus_fits ∙ minus_is
+
+  pub minus-small : SFits w8 (to_z w16 (of_z w16 (pos 0 -ℤ to_z w16 v)))
+  minus-small = rw minus-read (record { sfits = omega arith })
+
+  pub minus-value : to_z w8 (of_z w8 (to_z w16 (of_z w16 (pos 0 -ℤ to_z w16 v)))) ≡ negsuc (v - 1)
+  minus-value = to_z-of_z minus-small ∙ minus-read
 
 -- a word, byte by byte
 module _ (s w : List ℕ) (at i : ℕ) (inside : i < length w) where

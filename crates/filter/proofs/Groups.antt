@@ -85,3 +85,12 @@ module _ (w v : Width) {W U : Type 0} {C : ℤ} {f : ℕ → ℤ} {B D E : ℕ} 
 -- a sum as the machine passes it on is below a limit that is over its bound
 pub below : (w : Width) {W : Type 0} {C : ℤ} {f : ℕ → ℤ} {B D k L : ℕ} {s : ℤ} → Summed W C f B D k s → mag s < 2 ^ hbits w → B + k * D < L → nat_abs (to_z w (of_z w s)) < L
 below w {s = s} h ok l = rw (to_z-of_z {w = w} {z = s} (record { sfits = ok })) (lt_of_le_of_lt h.sum.bound l)
+
+-- two sums that the machine passes on, of which the second starts from 0
+pub both_sums : (w : Width) {W U : Type 0} {C : ℤ} {f h : ℕ → ℤ} {A B D E k m : ℕ} {s t r : ℤ} → Summed W C f B D k s → mag s < 2 ^ hbits w → Summed U (pos 0) h A E m t → mag t < 2 ^ hbits w →
+    r ≡ to_z w (of_z w s) +ℤ to_z w (of_z w t) → r ≡ C +ℤ sum_z k f +ℤ sum_z m h
+both_sums w {h = h} {m = m} {s = s} {t = t} p s-ok q t-ok e =
+    let s-is = to_z-of_z {w = w} {z = s} (record { sfits = s-ok }) in
+    let t-is = to_z-of_z {w = w} {z = t} (record { sfits = t-ok }) in
+    let t-sum = q.sum.is ∙ +ℤ_idl (sum_z m h) in
+    e ∙ (λ i. s-is i +ℤ t-is i) ∙ (λ i. p.sum.is i +ℤ t-sum i)

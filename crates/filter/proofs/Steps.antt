@@ -1,23 +1,42 @@
--- What the taps of the four filters share: where a tap leads, and a sum with one tap more.
+-- What the taps of the four filters share: where a tap of a table leads, and a sum with one tap more.
 use mathlib.Core.Path.{◌≡◌, refl, sym, ap, subst, ◌∙◌}
-use mathlib.Core.List.{List}
+use mathlib.Core.List.{List, []}
 use Prim.Native.Nat.{ℕ, ◌+◌, ◌*◌, ◌^◌, ◌≤◌, ◌<◌}
 use native.Mathlib.Omega.{arith}
-use lib.IntN.{ℤ, pos, nat_abs, ◌+ℤ◌, ◌-ℤ◌, ◌*ℤ◌}
+use lib.Dec.{T}
+use lib.IntN.{ℤ, pos, neg_ℤ, nat_abs, ◌+ℤ◌, ◌-ℤ◌, ◌*ℤ◌}
 use lib.Signed.{mag}
 use mir.Syntax.{Width, w8, w32}
 use mir.Val.{SFits, to_z, of_z, hbits}
 use mir.Facts.{to_z-of_z}
-use Rattle.definition.specs.Sample.{centre, ns_tap}
-use Rattle.definition.specs.Rows.{index_count}
+use Rattle.definition.specs.Sample.{dy_of, dx_of, centre, ns_tap}
+use Rattle.definition.specs.Rows.{row_bytes, index_count}
+use Rattle.laws.proofs.Ints.{sfits_abs}
+use Rattle.laws.proofs.Tables.{all, near, near-at}
 use Rattle.laws.proofs.Sums.{begun, tapped, passed}
-use Rattle.filter.specs.Windows.{Window, Spot, TapPair, Summed}
+use Rattle.filter.specs.Windows.{Window, Spot, PairAt, TapPair, Summed}
 
 -- a tap within reach of a window
 pub spot : {first size reach mid : ℕ} {rows indices : List ℕ} {col : ℕ} {dy dx : ℤ} →
     Window first size reach rows indices col → size < 2 ^ 16 → nat_abs dy ≤ mid → mid + nat_abs dy < index_count → nat_abs dx ≤ reach → Spot size mid col dy dx
 spot {reach = reach} {dx = dx} w s u d x =
     record { row_up = u; row_down = d; col_left = omega (arith, w.left); col_right = omega (arith, w.right); small = s }
+
+-- a tap of a table whose taps reach at most 4, as the machine holds it
+module _ (reach : ℕ) (taps : List (List ℤ)) (e : T (near reach [])) (t : T (all (near reach) taps)) (r : reach ≤ 4) (k : ℕ) where
+  pub dy_is : to_z w8 (of_z w8 (dy_of taps k)) ≡ dy_of taps k
+  dy_is = to_z-of_z {w = w8} (sfits_abs (omega (arith, (near-at reach taps e t k).0)))
+
+  pub dx_is : to_z w8 (of_z w8 (dx_of taps k)) ≡ dx_of taps k
+  dx_is = to_z-of_z {w = w8} (sfits_abs (omega (arith, (near-at reach taps e t k).1)))
+
+  pub tap_spot : {mid : ℕ} {rows indices : List ℕ} {col : ℕ} → Window 0 row_bytes reach rows indices col → reach ≤ mid → mid + reach < index_count →
+      Spot row_bytes mid col (to_z w8 (of_z w8 (dy_of taps k))) (to_z w8 (of_z w8 (dx_of taps k)))
+  tap_spot w u d =
+      rw (dy_is, dx_is) (spot w (omega arith) (omega (arith, (near-at reach taps e t k).0)) (omega (arith, (near-at reach taps e t k).0)) (near-at reach taps e t k).1)
+
+  pub tap_pair : {s : ℤ → ℤ → ℕ} {p : ℕ} → PairAt s (to_z w8 (of_z w8 (dy_of taps k))) (to_z w8 (of_z w8 (dx_of taps k))) p → TapPair s taps k p
+  tap_pair {s} h = record { is = h.is ∙ (λ i. s (dy_is i) (dx_is i) + s (neg_ℤ (dy_is i)) (neg_ℤ (dx_is i))); bound = h.bound }
 
 module _ {W : Type 0} {C : ℤ} {f : ℕ → ℤ} {B D : ℕ} where
   -- before the first tap

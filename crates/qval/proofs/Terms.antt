@@ -1,17 +1,19 @@
 -- The arithmetic of a term: the division by 8,192, by the sign of what is divided; and what the machine holds of the tables.
-use mathlib.Core.Path.{◌≡◌, refl, sym}
+use mathlib.Core.Path.{◌≡◌, refl, sym, ◌∙◌, ap}
 use mathlib.Core.Bool.{Bool, true, false}
 use mathlib.Core.List.{[]}
-use Prim.Native.Nat.{ℕ, suc, ◌+◌, ◌/◌}
+use Prim.Native.Nat.{ℕ, suc, ◌+◌, ◌/◌, ◌^◌, ◌<◌}
 use native.Mathlib.Omega.{arith}
 use lib.IntN.{ℤ, pos, negsuc, neg_ℤ, ◌+ℤ◌, ◌-ℤ◌, +ℤ_idl}
 use lib.Dec.{T, ltb, ltb→lt, lit<}
 use lib.ListN.{get_or}
 use lib.Signed.{mag, lt_z, shr_z}
-use borrow.Author.Tests.{ltb-true}
-use mir.Syntax.{w16, w64}
-use mir.Val.{SFits, of_z}
-use Rattle.definition.specs.ClassIndex.{by8192, weight, mode_weights, mode_offsets}
+use borrow.Author.Tests.{ltb-true, lt-ltb}
+use mir.Syntax.{w16, w32, w64}
+use mir.Val.{SFits, to_z, of_z}
+use mir.Facts.{to_z-of_z}
+use Rattle.definition.specs.ClassIndex.{by8192, weight, mode_weights, mode_offsets, term}
+use Rattle.definition.specs.Leaves.{or_zero_z, term_status}
 use Rattle.laws.proofs.Ints.{never}
 use Rattle.laws.proofs.Tables.{all, all-at}
 use Rattle.laws.proofs.Held.{Held, typed, cast, cast_b}
@@ -42,3 +44,12 @@ offset_fits i = fits (all-at small mode_offsets (pos 0) tt tt i)
 -- a 16-bit number, widened
 pub widened : {z : ℤ} → SFits w16 z → Held w64 (cast_b w16 w64 (of_z w16 z)) z 32768
 widened f = cast w64 (typed f) (lit< tt)
+
+-- one of the four terms is not refused; its value, passed on through its bits
+pub term_passed : (q v : ℤ) (t i : ℕ) → SFits w32 q → mag v < 2 ^ 31 → i < 4 →
+    v ≡ or_zero_z (term_status i) (term (to_z w32 (of_z w32 q)) t i) →
+    to_z w32 (of_z w32 v) ≡ term q t i
+term_passed q v t i fits ok h e =
+    to_z-of_z {w = w32} (record { sfits = ok }) ∙
+    e ∙
+    rw (lt-ltb i 4 h) (ap (λ (z : ℤ). term z t i) (to_z-of_z fits))

@@ -11,7 +11,7 @@ use Rattle.model.proofs.Opening.{open_rings}
 use Rattle.units.specs.declared.State.{State}
 use Rattle.units.specs.declared.Opened.{Opened}
 
--- before its first row: no rows are done, no classes are worked out, and the rows above and the first of its own are padded (`openRings`, of the model)
+-- before its first row: no rows are done, no classes are worked out, and the rows above and the first of its own are padded (`open_rings`, of the model)
 unfoldable pub open_state : Operation → Given → Lent → List ℕ → State
 open_state op n l p =
     record {
