@@ -22,15 +22,15 @@ record PlaneVector : Type 0 where
   expected : List ℕ
   pieces : ℕ
 
-holdsPlane : PlaneVector → Bool
-holdsPlane v =
-    same (planeAfter (v .w) (v .h) (v .u) (v .count) (v .plane) (v .skip) (v .filter)) (v .expected) &&
-    eqb (planePieces (v .w) (v .h) (v .u) (v .count) (v .skip)) (v .pieces)
+holds_plane : PlaneVector → Bool
+holds_plane v =
+    same (plane_after v.w v.h v.u v.count v.plane v.skip v.filter) v.expected &&
+    eqb (plane_pieces v.w v.h v.u v.count v.skip) v.pieces
 ";
 
 /// The definition's own names that the computation goes through.
 const UNFOLDED: &str =
-    "sumZ sumN rounded paddedIn skipBit finalIn across unitNumber planeAfter pieceAt planePieces";
+    "sum_z sum_n rounded padded_in skip_bit final_in across unit_number plane_after piece_at plane_pieces";
 
 /// The bytes behind a plane.
 const BEHIND: usize = 5;
@@ -186,8 +186,8 @@ fn write_plane(out: &mut String, k: usize, p: &Plane, units: Units, exec: &ExecC
     let _ = write!(
         out,
         "  pieces = {pieces};\n}}\n\n\
-         plane{k}-holds : holdsPlane plane{k} ≡ true\n\
-         unfolding holdsPlane same plane{k} {UNFOLDED}\n\
+         plane{k}-holds : holds_plane plane{k} ≡ true\n\
+         unfolding holds_plane same plane{k} {UNFOLDED}\n\
          plane{k}-holds = refl\n"
     );
 }

@@ -8,21 +8,16 @@ use crate::random::Random;
 use crate::units::{OPERATIONS, Operation, Spacing, Unit};
 
 const HEAD: &str = "\
-use mathlib.Core.Bool.{Bool, true, false, _&&_}
-use mathlib.Core.List.{List, [], _∷_}
-use mathlib.Core.Path.{_≡_, refl}
-use Prim.Native.Nat.{ℕ, zero, suc, _+_, _*_, _/_, _%_}
-use lib.Dec.{eqb}
-use lib.IntN.{ℤ, pos, negsuc}
-use Rattle·definition.specs.declared.Operation.{Operation}
-use Rattle·definition.specs.declared.Operation.the-variants.{Luma, User, Pretrained, Chroma}
-use Rattle·definition.specs.declared.Given.{Given}
-use Rattle·definition.specs.Numbers.{sumZ, sumN}
-use Rattle·definition.specs.Rows.{tab}
-use Rattle·definition.specs.Sample.{rounded}
-use Rattle·definition.specs.ClassIndex.{term, bin, feature, skipSum, indexOf}
-use Rattle·definition.specs.Units.{Lent, sampleAt, lumaAt, classOf, finalSample}
-use Rattle·definition.specs.Planes.{paddedIn, skipBit, finalIn, across, unitNumber, planeAfter, pieceAt, planePieces}
+use Rattle.std.specs.Prelude.{Bool, true, false, ◌&&◌, List, [], ◌∷◌, ◌≡◌, refl, ℕ, zero, suc, ◌+◌, ◌*◌, ◌/◌, ◌%◌, eqb, ℤ, pos, negsuc}
+use Rattle.definition.specs.declared.Operation.{Operation}
+use Rattle.definition.specs.declared.Operation.TheVariants.{Luma, User, Pretrained, Chroma}
+use Rattle.definition.specs.declared.Given.{Given}
+use Rattle.definition.specs.Numbers.{sum_z, sum_n}
+use Rattle.definition.specs.Rows.{tab}
+use Rattle.definition.specs.Sample.{rounded}
+use Rattle.definition.specs.ClassIndex.{term, bin, feature, skip_sum, index_of}
+use Rattle.definition.specs.Units.{Lent, sample_at, luma_at, class_of, final_sample}
+use Rattle.definition.specs.Planes.{padded_in, skip_bit, final_in, across, unit_number, plane_after, piece_at, plane_pieces}
 
 record Vector : Type 0 where
   op : Operation
@@ -33,12 +28,12 @@ record Vector : Type 0 where
   expected : List ℕ
 
 -- the map that the reference is run with, from entry k on and whole
-mapFrom : ℕ → ℕ → List ℕ
-mapFrom zero k = []
-mapFrom (suc n) k = (k * 37 + k / 64) % 64 ∷ mapFrom n (suc k)
+map_from : ℕ → ℕ → List ℕ
+map_from zero k = []
+map_from (suc n) k = (k * 37 + k / 64) % 64 ∷ map_from n (suc k)
 
-classMap : List ℕ
-classMap = mapFrom 4096 0
+class_map : List ℕ
+class_map = map_from 4096 0
 
 same : List ℕ → List ℕ → Bool
 same [] [] = true
@@ -47,15 +42,15 @@ same (x ∷ xs) [] = false
 same (x ∷ xs) (y ∷ ys) = eqb x y && same xs ys
 
 final : Operation → Given → Lent → List ℕ → List ℕ
-final op g l plane = tab (g .w * g .h) (λ i. finalSample g l plane op (i / g .w) (i % g .w))
+final op g l plane = tab (g.w * g.h) (λ i. final_sample g l plane op (i / g.w) (i % g.w))
 
 holds : Vector → Bool
-holds v = same (final (v .op) (v .given) (v .lent) (v .plane)) (v .expected)
+holds v = same (final v.op v.given v.lent v.plane) v.expected
 ";
 
 /// The definition's own names that the computation goes through.
 const UNFOLDED: &str =
-    "sumZ sumN rounded term bin feature skipSum indexOf sampleAt lumaAt classOf finalSample";
+    "sum_z sum_n rounded term bin feature skip_sum index_of sample_at luma_at class_of final_sample";
 
 /// A line `name = items;` of a record, broken into further lines where it is long.
 pub(crate) fn field<T>(
@@ -101,15 +96,15 @@ fn write_unit(out: &mut String, k: usize, u: &Unit, expected: &[u8]) {
         ("h", u.h),
         ("edges", u.edges),
         ("stride", u.stride),
-        ("«luma_stride»", u.luma_stride),
+        ("luma_stride", u.luma_stride),
         ("off", u.off),
-        ("«top_off»", u.top_off),
-        ("«bottom_off»", u.bottom_off),
-        ("«luma_off»", u.luma_off),
-        ("«luma_top_off»", u.luma_top_off),
-        ("«luma_bottom_off»", u.luma_bottom_off),
-        ("«ss_hor»", u.ss_hor),
-        ("«ss_ver»", u.ss_ver),
+        ("top_off", u.top_off),
+        ("bottom_off", u.bottom_off),
+        ("luma_off", u.luma_off),
+        ("luma_top_off", u.luma_top_off),
+        ("luma_bottom_off", u.luma_bottom_off),
+        ("ss_hor", u.ss_hor),
+        ("ss_ver", u.ss_ver),
         ("kind", u.kind),
     ] {
         let _ = writeln!(out, "    {name} = {number};");
@@ -119,15 +114,15 @@ fn write_unit(out: &mut String, k: usize, u: &Unit, expected: &[u8]) {
         ("left", &u.left),
         ("top", &u.top),
         ("bottom", &u.bottom),
-        ("lumaPlane", &u.luma_plane),
-        ("lumaTop", &u.luma_top),
-        ("lumaBottom", &u.luma_bottom),
+        ("luma_plane", &u.luma_plane),
+        ("luma_top", &u.luma_top),
+        ("luma_bottom", &u.luma_bottom),
     ] {
         field(out, "    ", name, bytes, u8::to_string);
     }
     field(out, "    ", "skip", &u.skip, u16::to_string);
     field(out, "    ", "noskip", &u.noskip, u16::to_string);
-    let map = if classed { "classMap" } else { "[]" };
+    let map = if classed { "class_map" } else { "[]" };
     let _ = writeln!(out, "    map = {map};");
     field(out, "    ", "subclass", &u.subclass, u8::to_string);
     field(out, "    ", "filters", &u.filters, |&c| integer(c));
@@ -279,7 +274,7 @@ pub(crate) fn file(seed: u64, count: usize) -> String {
         let _ = write!(
             out,
             "\nunit{k}-holds : holds unit{k} ≡ true\n\
-             unfolding holds final same mapFrom classMap unit{k} {UNFOLDED}\n\
+             unfolding holds final same map_from class_map unit{k} {UNFOLDED}\n\
              unit{k}-holds = refl\n"
         );
     }
