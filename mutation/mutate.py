@@ -6,19 +6,19 @@
     python3 mutation/mutate.py --specs --limit 60       # the definition: crates/definition/specs/
     python3 mutation/mutate.py --list padding           # print the sites and run nothing
 
-Run it in a repository whose crates are proved (`rt check`, and `rt dev NAME` once for each crate, which saves the first mutant's
-time): the scratch copies, outside the repository, start from its target/. --workers N makes N of them and works on N mutants
-at a time. --log names the file with a line for each mutant (target/mutants.log), and one that it has already is not run again.
+Run it in a repository whose crates are proved (`rt all check`): the scratch copies stand outside the repository, and the checks in them
+begin with what its own checks kept. --workers N makes N copies and works on N mutants at a time. --log names the file with a line for
+each mutant (target/mutants.log), and one that it has already is not run again.
 The table and the survivors are printed at the end. --together N makes up to N mutants in one check, of functions of which none
 calls another: each function is proved by itself, so what is said of it is said of its mutant. One of which nothing is said is made again alone.
 
-Programs: a mutant is refused where `rt dev CRATE` reaches the prover and the prover does not prove it. A mutant that the
+Programs: a mutant is refused where `rt check` in its crate reaches the prover and the prover does not prove it. A mutant that the
 compiler declines (a type, a literal out of range) is `not a program`, and is counted apart. A mutant that is proved survived:
 either it is the same program to every caller, or a contract does not say something.
 
 Definition: a mutant is refused where a crate above it is not proved any more; `not a definition` where it has no types. The crates
-are tried in the order of ABOVE, those of NEAREST first, each over the changed definition and the other libraries as they were (a crate
-whose promises are not true any more is itself among those tried), and the first that fails ends it. For a survivor run `rt check` with the change made.
+are tried in the order of ABOVE, those of NEAREST first, by `rt check`, which first proves the libraries between over the changed definition
+(where one of these fails, it is the one that refuses), and the first that fails ends it. For a survivor run `rt all check` with the change made.
 
 Refused says that the proof at hand does not prove the mutant: a fact that it needs does not follow any more. A mutant that means the
 same may be refused too. `refused by names` is weaker and counted apart: the proof only names a step that the mutant's code does not have.
@@ -179,22 +179,22 @@ def program_sites(file, text):
 
 ABOVE = ('samples laws model vectors intops bounds operations blocks history card_laws plane_laws card_reader features padding qval class_index filter refusals units'
          ' whole plane claims card_answer paused gihvendu').split()
-# the crates that lean on a file most: they are tried first, behind `samples`
+# the crates that lean on a file most, a lower one first: they are tried first, behind `samples`
 NEAREST = {'Card': 'card_reader card_answer', 'Refusals': 'model operations refusals', 'ClassIndex': 'qval class_index features model', 'Sample': 'model vectors filter',
            'Padding': 'model operations padding', 'Blocks': 'blocks vectors', 'Units': 'model vectors', 'Rows': 'blocks features padding', 'Numbers': 'intops qval',
-           'Leaves': 'blocks qval features class_index padding filter', 'Calls': 'card_answer units', 'Limits': 'bounds refusals',
+           'Leaves': 'blocks qval features class_index padding filter', 'Calls': 'units card_answer', 'Limits': 'bounds refusals',
            'Planes': 'plane_laws vectors plane'}
-RULE = re.compile(r'[()]|"(?:\\.|[^"\\])*"|[^\s();]+|;')
+# a field is a token of its own, with its dot
+RULE = re.compile(r'[()]|"(?:\\.|[^"\\])*"|\.?[^\s();.]+|[;.]')
 TURNED = {'ltb': ['leb'], 'leb': ['ltb'], '+': ['-'], '-': ['+'], '*': ['+'], '/': ['%'], '%': ['/'], '+ℤ': ['-ℤ'], '-ℤ': ['+ℤ'], '*ℤ': ['+ℤ'],
           '&&': ['||'], '||': ['&&'], 'min': ['max'], 'true': ['false'], 'false': ['true'], 'not': [''], 'pos': ['negsuc'], 'negsuc': ['pos']}
-SIBLINGS = ('hasLeft hasRight,hasTop hasBottom,topIntegrated bottomIntegrated,.w .h,.«ss_hor» .«ss_ver»,.top .bottom,.«top_off» .«bottom_off»,.lumaTop .lumaBottom,'
-            '.«luma_top_off» .«luma_bottom_off»,.stride .«luma_stride»,vertical step,upperSaved lowerSaved,topRow bottomRow,lumaTopRow lumaBottomRow,'
-            'planeRow ownRow,upper lower,leftOf rightOf,widthLimit heightLimit,leastI32 mostI32,dyOf dxOf,newline comma,rowBytes lumaRowBytes')
+SIBLINGS = ('has_left has_right,has_top has_bottom,top_integrated bottom_integrated,.w .h,.ss_hor .ss_ver,.top .bottom,.top_off .bottom_off,.luma_top .luma_bottom,'
+            '.luma_top_off .luma_bottom_off,.stride .luma_stride,vertical step,upper_saved lower_saved,top_row bottom_row,luma_top_row luma_bottom_row,'
+            'plane_row own_row,upper lower,left_of right_of,width_limit height_limit,least_i32 most_i32,dy_of dx_of,newline comma,row_bytes luma_row_bytes')
 for pair in SIBLINGS.split(','):
     one, other = pair.split()
     TURNED[one], TURNED[other] = [other], [one]
-HOME = {'lib.Dec': ['ltb', 'leb'], 'Prim.Native.Nat': ['_+_', '_-_', '_/_', '_%_', 'max'], 'mathlib.Core.Bool': ['_&&_', '_||_', 'true', 'false'],
-        'lib.IntN': ['_+ℤ_', '_-ℤ_', 'pos', 'negsuc']}
+HOME = {'Rattle.std.specs.Prelude': ['ltb', 'leb', '◌+◌', '◌-◌', '◌/◌', '◌%◌', 'max', '◌&&◌', '◌||◌', 'true', 'false', '◌+ℤ◌', '◌-ℤ◌', 'pos', 'negsuc']}
 
 
 def rules(text):
@@ -238,7 +238,7 @@ def definition_sites(file, text):
             if t[0] == '"':
                 news = [t[:1] + chr(ord(t[1]) ^ 1) + t[2:]]
             for new in news:
-                need = imported(text, new) + imported(text, '_%s_' % new)
+                need = imported(text, new) + imported(text, '◌%s◌' % new)
                 kind = 'constant' if t[0] in '"0123456789' else 'rule'
                 yield Site(file, a, b, new, kind, tuple(need), None)
     # the branches of a cond, which may stand on further lines
@@ -283,29 +283,34 @@ def described(site, text):
     return '%s:%d' % (site.file, line), ' '.join(old.split()), ' '.join(new.split())
 
 
-def call(words, folder, seconds):
-    """The exit status and what was said; status 3, could not tell, where the time is over."""
+def check(folder, crate, seconds):
+    """The exit status of a crate's check and what was said; status 3, could not tell, where the time is over."""
     try:
-        r = subprocess.run(words, cwd=folder, stdout=subprocess.PIPE, stderr=subprocess.STDOUT, timeout=seconds, env=dict(os.environ, RT_JOBS='1'))
-        return r.returncode, r.stdout.decode('utf-8', 'replace')
+        r = subprocess.run(['rt', 'check', '--jobs', '1'], cwd=os.path.join(folder, 'crates', crate), stdout=subprocess.PIPE, stderr=subprocess.STDOUT, timeout=seconds)
+        # what a long check says as it goes
+        return r.returncode, re.sub('^so far: ', '', r.stdout.decode('utf-8', 'replace'), flags=re.M)
     except subprocess.TimeoutExpired:
         return 3, 'error: time is over'
 
 
 # errors that say no more than that a proof names something that the code does not have now, or that an earlier error stands in the way
-NAMES = re.compile(r'that can be named from here|has no field|was not admitted|is not in scope|-spec`: ')
+NAMES = re.compile(r'that can be named from here|has no field|no module, record or data type .* is in scope|is not in scope|(is|was) not admitted|which was rejected|'
+                   r'no proof: it calls|_spec`: ')
 
 
 def reason(said, folder):
     """The first error that is about a fact; where there is none, the first about a name, marked so."""
     lines = [l for l in said.splitlines() if re.search(r': error\b|^note: .* it is not proved that|^fn .*no proof', l)]
     facts = [l for l in lines if not NAMES.search(l)]
+    # a goal whose answer has the name of one that is gone: that a search does not find another says nothing, unless the goal is false
+    if any('.Goals` has no ' in l for l in lines):
+        facts = [l for l in facts if not l.startswith('note: ') or 'goal is false' in l]
     mark = '' if facts else 'NAMES: '
     return mark + short((facts + lines + ['no error line'])[0].replace(folder + '/', ''), 200)
 
 
 def verdict_of_program(folder, crate, seconds):
-    status, said = call(['rt', 'dev', crate], folder, seconds)
+    status, said = check(folder, crate, seconds)
     if status == 0:
         return 'survived', ''
     if status == 1 and re.search(r'^logic=not-proved', said, re.M):
@@ -377,7 +382,7 @@ def verdicts_of_programs(folder, crate, batch, texts, seconds):
     if len(batch) == 1:
         found, said, proving = [verdict_of_program(folder, crate, seconds)], '', False
     else:
-        status, said = call(['rt', 'dev', crate], folder, seconds)
+        status, said = check(folder, crate, seconds)
         found, proving = [None] * len(batch), status == 1 and re.search(r'^logic=not-proved', said, re.M)
     for file in changed:
         open(os.path.join(folder, file), 'w', encoding='utf-8').write(texts[file])
@@ -396,27 +401,16 @@ def verdicts_of_programs(folder, crate, batch, texts, seconds):
     return found
 
 
-def over_old_libraries(folder, crate, seconds):
-    """Checks one crate over the changed definition and, of all else that it stands on, the libraries as they were: seconds in place of minutes."""
-    kit = os.path.dirname(os.path.dirname(subprocess.check_output(['rt', 'doc'], text=True).split()[-1]))
-    own = os.path.join(kit, 'on', os.uname().machine)
-    deps = re.search(r'^%s:(.*)$' % crate, open(os.path.join(folder, 'crates.txt')).read(), re.M).group(1).split()
-    words = [own + '/bin/rattle', 'check', '--crate-name', crate, 'crates/%s/src/lib.rt' % crate, '--extern', 'std=%s/rlib/std.rlib' % own]
-    for d in deps:
-        words += ['--extern', '%s=target/rlib/%s.rlib' % (d, d)]
-    os.makedirs(os.path.join(folder, 'target/inc', crate), exist_ok=True)
-    words += ['-L', 'dependency=target/rlib', '-L', 'dependency=%s/rlib' % own, '--antt-project', kit + '/logic/antt-project.json',
-              '--logic-built', own + '/logic-built', '--incremental', 'target/inc/' + crate]
-    return call(words, folder, seconds)
-
-
 def verdict_of_definition(folder, file, seconds):
-    status, said = call(['rt', 'check', 'definition'], folder, seconds)
+    status, said = check(folder, 'definition', seconds)
     if status != 0:
         return 'not a definition', reason(said, folder)
     near = NEAREST.get(os.path.splitext(os.path.basename(file))[0], '').split()
     for crate in ABOVE[:1] + near + [c for c in ABOVE[1:] if c not in near]:
-        status, said = over_old_libraries(folder, crate, seconds)
+        status, said = check(folder, crate, seconds)
+        # a library between that is not proved ends the check of the crate
+        between = re.search(r'^rt: the library (\w+) did not build', said, re.M)
+        crate = between.group(1) if between else crate
         if status == 1 and re.search(r'^logic=not-proved', said, re.M):
             why = reason(said, folder)
             return 'refused by names' if why.startswith('NAMES') else 'refused', 'by %s: %s' % (crate, why)
@@ -475,6 +469,7 @@ def main():
     todo, lock, results, known, fresh = queue.Queue(), threading.Lock(), [], {}, collections.defaultdict(list)
     if os.path.exists(o.log):
         known = {tuple(f[2:5]): f[0] for f in (l.split('\t') for l in open(o.log, encoding='utf-8'))}
+    os.makedirs(os.path.dirname(os.path.abspath(o.log)), exist_ok=True)
     log = open(o.log, 'a', encoding='utf-8')
     for crate, s in work:
         what = described(s, texts[s.file])
@@ -489,10 +484,7 @@ def main():
 
     def worker(k):
         folder = os.path.join(scratch, str(k))
-        shutil.copytree(ROOT, folder, symlinks=True, ignore=shutil.ignore_patterns('.git', 'inc'))
-        for crate in ABOVE if o.specs else names:
-            if os.path.isdir(os.path.join(ROOT, 'target/inc', crate)):
-                shutil.copytree(os.path.join(ROOT, 'target/inc', crate), os.path.join(folder, 'target/inc', crate))
+        shutil.copytree(ROOT, folder, symlinks=True, ignore=shutil.ignore_patterns('.git', 'target', 'out'))
         while True:
             try:
                 crate, batch = todo.get_nowait()
