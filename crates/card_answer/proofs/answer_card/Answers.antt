@@ -4,12 +4,10 @@ use Rattle.card_laws.proofs.Readings.{meaning_fine}
 use Rattle.card_answer.proofs.Answered.{declined, GoodCard, taken, head_fits, answered, unit-answered}
 use Rattle.card_answer.proofs.answer_card.Goals as goal
 
--- src/rt:94:9
 pub returns-then-status-ne0 : goal.returns-then-status-ne0
 returns-then-status-ne0 c =
     answered c.args.s.now _ _ _ c.put_head-n.ensures (head_fits _) (rw c.read_card-c.ensures (declined (meaning c.args.s.now) (rw c.read_card-c.ensures at c.if-status-ne0.true)))
 
--- src/rt:86:1
 pub returns : goal.returns
 returns c =
     unit-answered c.args.s.now c.read_card-c.result _ _ _ c.read_card-c.ensures c.if-status-ne0.false c.spread-skip.ensures c.put_unit-n.ensures

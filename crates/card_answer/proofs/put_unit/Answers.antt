@@ -11,14 +11,12 @@ use Rattle.card_answer.proofs.Texts.{put_then, head_short}
 use Rattle.card_answer.proofs.Restorations.{plane-long}
 use Rattle.card_answer.proofs.put_unit.Goals as goal
 
--- src/rt:82:5
 pub put_rows-requires : goal.put_rows-requires
 put_rows-requires c =
     let k = length-take-le (c.args.w * c.args.h) c.restore-pieces.new.p (omega (arith, c.restore-pieces.auto.p, c.requires)) in
     let lh = (is-sized height_limit c.args.h c.requires.w_value.1).high in
     (omega (arith, c.put_head-at.auto.out, c.requires.w_value.3, c.put_head-at.ensures.place, head_short c.restore-pieces.result, lh), (is-sized width_limit c.args.w c.requires.w_value.0).high, omega (arith, k))
 
--- src/rt:74:1
 pub returns : goal.returns
 unfolding unit_text
 returns c =

@@ -2,7 +2,6 @@ use Rattle.definition.specs.Card.{decimal_text}
 use Rattle.card_answer.proofs.Texts.{put_then}
 use Rattle.card_answer.proofs.text.put_decimal.Goals as goal
 
--- src/rt:50:1
 pub returns : goal.returns
 unfolding decimal_text
 returns c =

@@ -3,12 +3,10 @@ use Rattle.definition.specs.Card.{line_text}
 use Rattle.card_answer.proofs.Texts.{put_then, decimal_short}
 use Rattle.card_answer.proofs.text.put_line.Goals as goal
 
--- src/rt:66:5
 pub put-requires : goal.put-requires
 put-requires c =
     omega (arith, c.put_word-a.auto.out, c.put_word-a.ensures.place, c.put_decimal-b.auto.out, c.put_decimal-b.ensures.place, decimal_short c.args.n, c.requires)
 
--- src/rt:60:1
 pub returns : goal.returns
 unfolding line_text
 returns c =

@@ -7,18 +7,15 @@ use Rattle.card_laws.proofs.Planes.{in_plane, part-long}
 use Rattle.card_answer.proofs.Texts.{put-none, rows_short, rows_more}
 use Rattle.card_answer.proofs.text.put_rows.Goals as goal
 
--- src/text.rt:110:5
 pub loop-y-init : goal.loop-y-init
 unfolding rows_text
 loop-y-init c =
     (omega arith, refl, put-none _ _)
 
--- src/text.rt:113:9
 pub put_row-next-requires : goal.put_row-next-requires
 put_row-next-requires c =
     omega (arith, c.loop-y.invariant.1, c.loop-y.invariant.2.place, rows_short c.args.w c.args.plane.now c.loop-y.y (omega (arith, c.requires)), c.loop-y-test.true, c.requires, part-long c.loop-y.y c.args.w c.args.plane.now (in_plane c.loop-y.y c.args.w c.args.h (length c.args.plane.now) c.loop-y-test.true (omega (arith, c.requires))))
 
--- src/text.rt:110:5
 pub loop-y-preserved : goal.loop-y-preserved
 loop-y-preserved c =
     let k : c.loop-y.y * c.args.w + c.args.w - c.loop-y.y * c.args.w ≡ c.args.w = omega arith in

@@ -12,6 +12,10 @@ use Rattle.plane_laws.proofs.Cut.{Lies}
 use Rattle.plane.proofs.Reached.{Reached, start, ended, lies, bank_low, one_more}
 use Rattle.plane.proofs.walk.restore_units.Goals as goal
 
+-- a unit that is asked for is one of the plane's
+few_units : {k n found all : ℕ} (count : ℕ) → k < n → n ≡ min count found → found ≡ all → k < all
+few_units count h e f = omega arith
+
 -- WHAT IS KNOWN IN THE LOOP: the unit lies in the plane, and so do its rows, whole
 module _ {W H u k y x bank pieces size : ℕ} {p0 skip : List ℕ} {filter : List ℤ} {p s left : List ℕ}
     (fine : PlaneFine W H u (length p0) (length skip) (length filter) size)
@@ -31,34 +35,34 @@ loop-k-init c =
 
 pub overflow_sub-w : goal.overflow_sub-w
 overflow_sub-w c =
-    let few : c.loop-k.k < unit_count c.args.w c.args.h c.args.unit = omega (arith, c.loop-k-test.true, c.least-n.ensures, c.unit_count.ensures) in
+    let few = few_units c.args.count c.loop-k-test.true c.least-n.ensures c.unit_count.ensures in
     omega (arith, (inside c.requires c.loop-k.invariant.1 few).far)
 
 pub overflow_sub-h : goal.overflow_sub-h
 overflow_sub-h c =
-    let few : c.loop-k.k < unit_count c.args.w c.args.h c.args.unit = omega (arith, c.loop-k-test.true, c.least-n.ensures, c.unit_count.ensures) in
+    let few = few_units c.args.count c.loop-k-test.true c.least-n.ensures c.unit_count.ensures in
     omega (arith, (inside c.requires c.loop-k.invariant.1 few).low)
 
 pub overflow_add-end : goal.overflow_add-end
 overflow_add-end c =
-    let few : c.loop-k.k < unit_count c.args.w c.args.h c.args.unit = omega (arith, c.loop-k-test.true, c.least-n.ensures, c.unit_count.ensures) in
+    let few = few_units c.args.count c.loop-k-test.true c.least-n.ensures c.unit_count.ensures in
     let i = inside c.requires c.loop-k.invariant.1 few in
     record { fits = omega (arith, c.least-uw.ensures, i.far, i.wide) }
 
 pub overflow_sub-other : goal.overflow_sub-other
 overflow_sub-other c =
-    let few : c.loop-k.k < unit_count c.args.w c.args.h c.args.unit = omega (arith, c.loop-k-test.true, c.least-n.ensures, c.unit_count.ensures) in
+    let few = few_units c.args.count c.loop-k-test.true c.least-n.ensures c.unit_count.ensures in
     low_bank c.requires c.loop-k.invariant.1 few
 
 pub overflow_add-y : goal.overflow_add-y
 overflow_add-y c =
-    let few : c.loop-k.k < unit_count c.args.w c.args.h c.args.unit = omega (arith, c.loop-k-test.true, c.least-n.ensures, c.unit_count.ensures) in
+    let few = few_units c.args.count c.loop-k-test.true c.least-n.ensures c.unit_count.ensures in
     let i = inside c.requires c.loop-k.invariant.1 few in
     record { fits = omega (arith, c.least-uh.ensures, i.low, i.high) }
 
 pub save_rows-requires : goal.save_rows-requires
 save_rows-requires c =
-    let few : c.loop-k.k < unit_count c.args.w c.args.h c.args.unit = omega (arith, c.loop-k-test.true, c.least-n.ensures, c.unit_count.ensures) in
+    let few = few_units c.args.count c.loop-k-test.true c.least-n.ensures c.unit_count.ensures in
     let here = c.loop-k.invariant.1 in
     let i = inside c.requires here few in
     rw c.least-uh.ensures (
@@ -72,7 +76,7 @@ save_rows-requires c =
 
 pub columns_before-next-requires : goal.columns_before-next-requires
 columns_before-next-requires c =
-    let few : c.loop-k.k < unit_count c.args.w c.args.h c.args.unit = omega (arith, c.loop-k-test.true, c.least-n.ensures, c.unit_count.ensures) in
+    let few = few_units c.args.count c.loop-k-test.true c.least-n.ensures c.unit_count.ensures in
     let here = c.loop-k.invariant.1 in
     let i = inside c.requires here few in
     rw c.least-uh.ensures (
@@ -86,17 +90,17 @@ columns_before-next-requires c =
 
 pub unit_masks-masks-requires : goal.unit_masks-masks-requires
 unit_masks-masks-requires c =
-    let few : c.loop-k.k < unit_count c.args.w c.args.h c.args.unit = omega (arith, c.loop-k-test.true, c.least-n.ensures, c.unit_count.ensures) in
+    let few = few_units c.args.count c.loop-k-test.true c.least-n.ensures c.unit_count.ensures in
     rw (c.least-uw.ensures, c.least-uh.ensures) (inside c.requires c.loop-k.invariant.1 few, c.requires.masks)
 
 pub restore_unit-r-requires : goal.restore_unit-r-requires
 restore_unit-r-requires c =
-    let few : c.loop-k.k < unit_count c.args.w c.args.h c.args.unit = omega (arith, c.loop-k-test.true, c.least-n.ensures, c.unit_count.ensures) in
+    let few = few_units c.args.count c.loop-k-test.true c.least-n.ensures c.unit_count.ensures in
     rw (c.least-uw.ensures, c.least-uh.ensures) (inside c.requires c.loop-k.invariant.1 few, low_bank c.requires c.loop-k.invariant.1 few)
 
 pub overflow_add-pieces : goal.overflow_add-pieces
 overflow_add-pieces c =
-    let few : c.loop-k.k < unit_count c.args.w c.args.h c.args.unit = omega (arith, c.loop-k-test.true, c.least-n.ensures, c.unit_count.ensures) in
+    let few = few_units c.args.count c.loop-k-test.true c.least-n.ensures c.unit_count.ensures in
     let more =
     one_more c.args.w c.args.h c.args.unit c.args.p.now c.args.skip.now c.args.filter.now (length c.args.scratch.now) c.requires _ _ _ _ _ _ _ _ c.loop-k.invariant.1 few
     (λ (n : ℕ). omega (arith, c.type_inv.skip n)) c.least-uw.result c.least-uh.result c.least-uw.ensures c.least-uh.ensures
@@ -110,13 +114,13 @@ overflow_add-k c =
 
 pub overflow_add-x : goal.overflow_add-x
 overflow_add-x c =
-    let few : c.loop-k.k < unit_count c.args.w c.args.h c.args.unit = omega (arith, c.loop-k-test.true, c.least-n.ensures, c.unit_count.ensures) in
+    let few = few_units c.args.count c.loop-k-test.true c.least-n.ensures c.unit_count.ensures in
     let i = inside c.requires c.loop-k.invariant.1 few in
     record { fits = omega (arith, i.far, i.wide, c.requires.unit) }
 
 pub loop-k-preserved-then-x-unit : goal.loop-k-preserved-then-x-unit
 loop-k-preserved-then-x-unit c =
-    let few : c.loop-k.k < unit_count c.args.w c.args.h c.args.unit = omega (arith, c.loop-k-test.true, c.least-n.ensures, c.unit_count.ensures) in
+    let few = few_units c.args.count c.loop-k-test.true c.least-n.ensures c.unit_count.ensures in
     let more =
     one_more c.args.w c.args.h c.args.unit c.args.p.now c.args.skip.now c.args.filter.now (length c.args.scratch.now) c.requires _ _ _ _ _ _ _ _ c.loop-k.invariant.1 few
     (λ (n : ℕ). omega (arith, c.type_inv.skip n)) c.least-uw.result c.least-uh.result c.least-uw.ensures c.least-uh.ensures
@@ -126,13 +130,13 @@ loop-k-preserved-then-x-unit c =
 
 pub overflow_add-y-else-x-unit : goal.overflow_add-y-else-x-unit
 overflow_add-y-else-x-unit c =
-    let few : c.loop-k.k < unit_count c.args.w c.args.h c.args.unit = omega (arith, c.loop-k-test.true, c.least-n.ensures, c.unit_count.ensures) in
+    let few = few_units c.args.count c.loop-k-test.true c.least-n.ensures c.unit_count.ensures in
     let i = inside c.requires c.loop-k.invariant.1 few in
     record { fits = omega (arith, i.low, i.high, c.requires.unit) }
 
 pub loop-k-preserved : goal.loop-k-preserved
 loop-k-preserved c =
-    let few : c.loop-k.k < unit_count c.args.w c.args.h c.args.unit = omega (arith, c.loop-k-test.true, c.least-n.ensures, c.unit_count.ensures) in
+    let few = few_units c.args.count c.loop-k-test.true c.least-n.ensures c.unit_count.ensures in
     let more =
     one_more c.args.w c.args.h c.args.unit c.args.p.now c.args.skip.now c.args.filter.now (length c.args.scratch.now) c.requires _ _ _ _ _ _ _ _ c.loop-k.invariant.1 few
     (λ (n : ℕ). omega (arith, c.type_inv.skip n)) c.least-uw.result c.least-uh.result c.least-uw.ensures c.least-uh.ensures
