@@ -135,6 +135,8 @@ def program_sites(file, text):
                 yield put(a, b, CHANGED[t], 'comparison' if t[0] in '<>=!' and t not in ('<<', '>>') else 'operator')
             if t in ('-', '!') and not operand and t != behind:
                 yield put(a, b, '', 'operator')
+            if t in ('min', 'max') and before == '.':
+                yield put(a, b, 'max' if t == 'min' else 'min', 'operator')
             # the condition of an if, a name or a call, turned round
             if t == 'if' and re.match(r'[a-z_]', behind) and behind != 'let':
                 k = i + 1
@@ -157,7 +159,10 @@ def program_sites(file, text):
                 if fields:
                     spans = [(p + m.end(), q) for p, q in spans for m in [re.match(r'\w+:\s*', text[p:q])] if m]
                 spans = [(p, q, text[p:q]) for p, q in spans]
-                if call and before in CHOOSERS:
+                # of a chooser that is a method, what it is asked of stays
+                if call and before in CHOOSERS and word(i - 2) == '.':
+                    yield put(tokens[i - 2][1], tokens[matching(tokens, i)][2], '', 'operand')
+                elif call and before in CHOOSERS:
                     k = i - 1
                     while word(k - 1) == '::':
                         k -= 2
@@ -183,6 +188,7 @@ ABOVE = ('samples laws model vectors intops bounds operations blocks history car
 NEAREST = {'Card': 'card_reader card_answer', 'Refusals': 'model operations refusals', 'ClassIndex': 'qval class_index features model', 'Sample': 'model vectors filter',
            'Padding': 'model operations padding', 'Blocks': 'blocks vectors', 'Units': 'model vectors', 'Rows': 'blocks features padding', 'Numbers': 'intops qval',
            'Leaves': 'blocks qval features class_index padding filter', 'Calls': 'units card_answer', 'Limits': 'bounds refusals',
+           'Answers': 'laws blocks qval refusals',
            'Planes': 'plane_laws vectors plane'}
 # a field is a token of its own, with its dot
 RULE = re.compile(r'[()]|"(?:\\.|[^"\\])*"|\.?[^\s();.]+|[;.]')
@@ -360,7 +366,9 @@ def batches(crate, sites, texts, size):
 def own_errors(site, text, said):
     """What was said of the proof of the site's function."""
     stem = os.path.splitext(os.path.basename(site.file))[0]
-    proof = re.compile(r'/proofs/%s%s/' % (r'([A-Z]\w*/)?' if stem == 'lib' else stem + '/', site.fn.name))
+    # a method's proof stands under its type, which may be declared in another file
+    method = r'(?:\w+/)?[A-Z]\w*/'
+    proof = re.compile(r'/proofs/(?:%s|%s)%s/' % ('' if stem == 'lib' else stem + '/', method, site.fn.name))
     place = re.compile(re.escape(os.path.join('src', os.path.basename(site.file))) + r':(\d+):')
     first, last = text.count('\n', 0, site.fn.start) + 1, text.count('\n', 0, site.fn.end) + 1
     for line in said.splitlines():

@@ -32,25 +32,26 @@ SAYS = re.compile(r'(interpreter|checked|run)[:=]')
 # a change of a copy: a file, what stands in it once, and what takes its place
 Change = collections.namedtuple('Change', 'file old new')
 
-ROW = '    let row = padded_row(op, g, plane, left, top, bottom, r);\n'
-FIVE = '    crate::rows::pad_row(op, g, plane, left, top, bottom, done + 9, rows, 9);\n'
-HAS = '    let has = has_left(edges);\n'
+ROW = '        let row = self.padded_row(r);\n'
+PUT = '        rows[at..at + ROW_BYTES].copy_from_slice(&row);\n'
+FIVE = '        unit.pad_row(self.done + 9, &mut self.rows, 9);\n'
+BEFORE = '    before_into(dst, o, edge_len, left, left_off, sides.left, src[src_o]);\n'
 
 # `pad_row` says which row it is about to pad, and the padding that it was done
 PRINTS = [
     Change('crates/units/src/rows.rt', ROW,
-           '    io::write_all(1, b"row ");\n    io::print_decimal(1, r as u64);\n    io::write_all(1, b"\\n");\n' + ROW),
-    Change('crates/padding/src/backup_row.rt', HAS, '    io::write_all(1, b"padded\\n");\n' + HAS),
+           '        io::write_all(1, b"row ");\n        io::print_decimal(1, r as u64);\n        io::write_all(1, b"\\n");\n' + ROW),
+    Change('crates/padding/src/backup_row.rt', BEFORE, '    io::write_all(1, b"padded\\n");\n' + BEFORE),
 ]
 WRONG = {
     'row four padded again for the features': Change(
         'crates/units/src/classed.rt', FIVE,
-        '    let four = indices[8];\n    crate::rows::pad_row(op, g, plane, left, top, bottom, done + 8, rows, four);\n' + FIVE),
+        '        let four = self.indices[8];\n        unit.pad_row(self.done + 8, &mut self.rows, four);\n' + FIVE),
     'rows below the unit not padded anew': Change(
         'crates/units/src/rows.rt', '    r < g.h + border_of(op) + rows_below(op, g.edges)\n', '    r < g.h + border_of(op)\n'),
     'each row padded twice within pad_row': Change(
-        'crates/units/src/rows.rt', '    put_row(rows, slot, row);\n',
-        '    put_row(rows, slot, row);\n    let again = padded_row(op, g, plane, left, top, bottom, r);\n    put_row(rows, slot, again);\n'),
+        'crates/units/src/rows.rt', PUT,
+        PUT + '        let again = self.padded_row(r);\n        rows[at..at + ROW_BYTES].copy_from_slice(&again);\n'),
 }
 
 

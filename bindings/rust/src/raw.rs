@@ -120,8 +120,7 @@ impl Default for State {
     }
 }
 
-// The answers have the status first, then what was done, then the state. `Opened` alone has the state before the status:
-// behind it the library would copy the state once more where it restores a whole unit.
+// The answers have the status first, then what was done, then the state. `Opened` alone has the state before the status.
 
 /// What an opening answers.
 #[repr(C)]

@@ -3,9 +3,11 @@
 #![tactic(auto)]
 
 use card_reader::INPUT_SIZE;
+use std::io;
 
-fn main() {
+fn main(rt: HostRuntime) -> io::Result<()> {
     let mut input = [0u8; INPUT_SIZE];
-    let n = io::read_full(0, &mut input);
-    card_print::print_answer(&input[..n]);
+    let n = card_print::read_full(&mut rt.stdin(), &mut input)?;
+    card_print::print_answer(&mut rt.stdout(), &input[..n]);
+    Ok(())
 }

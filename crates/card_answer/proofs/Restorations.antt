@@ -12,7 +12,7 @@ use lib.Seq.{ext_get_or}
 use Rattle.laws.proofs.Inside.{is-sized}
 use Rattle.definition.specs.declared.Operation.TheVariants.{Luma}
 use Rattle.definition.specs.Rows.{tab}
-use Rattle.definition.specs.Blocks.{side, pieces_of}
+use Rattle.definition.specs.Blocks.{side}
 use Rattle.definition.specs.Units.{final_sample}
 use Rattle.definition.specs.Refusals.{sized, outside, unit_status, unit_checks, sizes_of, open_status}
 use Rattle.definition.specs.Limits.{width_limit, height_limit, stride_limit}
@@ -75,9 +75,6 @@ module _ (w h : ℕ) (filter : List ℤ) (skip p q : List ℕ) (r : Restored) (o
     (f : length filter ≡ 16) (k : length skip ≡ height_limit) (size : length p ≡ w * h) (o : Whole Luma r (given_y w h 0 w 0 0 0) (luma_lent [] [] [] filter skip) p q) where
   zero_status : open_status Luma (given_y w h 0 w 0 0 0) (luma_lent [] [] [] filter skip) p ≡ 0
   zero_status = accepted w h filter skip p ow oh f k (omega (arith, size))
-
-  pub restored-pieces : r.pieces ≡ pieces_of skip (w / side) 0 h
-  restored-pieces = o.pieces zero_status
 
   pub restored-plane : q ≡ plane_of w h filter skip p
   unfolding plane_of

@@ -1,3 +1,3 @@
--- Answers is what the public function answers; Put, what private ones leave, need not be read.
+-- Answers is how long an answer is at most; Put, what private functions leave, need not be read.
 pub mod Answers
 pub mod Put

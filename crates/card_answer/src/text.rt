@@ -1,117 +1,153 @@
-// Puts the lines that answer a card into a list. Each function hands back the place behind what it put.
-ghost use Rattle.std.specs.Prelude.{◌≡◌, [], ◌∷◌, ◌+◌, ◌*◌, ◌≤◌, ◌<◌, length};
+// The text of an answer, which grows by the lines that answer a card.
+ghost use Rattle.std.specs.Prelude.{◌≡◌, [], ◌∷◌, ◌++◌, ◌+◌, ◌*◌, ◌%◌, ◌≤◌, ◌<◌, length};
 ghost use Rattle.definition.specs.Card.{higher, decimal_text, hex_text, row_text, rows_text, line_text, head_text, glyph as Card·glyph, row_line};
 ghost use Rattle.definition.specs.Limits.{width_limit};
-ghost use Rattle.card_answer.specs.Put.{Put};
+ghost use Rattle.card_answer.specs.Answers.{text_size};
 
-fn glyph(d: usize) -> u8
+use card_reader::ROW_LINE;
+use definition::HEIGHT_LIMIT;
+use std::marker::Model;
+
+// The bytes of the longest answer: the lines of status 0 and of filtered, and the rows.
+const TEXT_SIZE: usize = 23 + HEIGHT_LIMIT * ROW_LINE;
+
+// A text, at the front of memory for the longest one: the project uses no heap.
+#[derive(Drop)]
+pub struct Answer {
+    len: usize,
+    bytes: [u8; TEXT_SIZE],
+}
+
+impl Model for Answer {
+    ghost use Rattle.std.specs.Prelude.{List, ℕ, ◌≤◌, take};
+    ghost use Rattle.card_answer.specs.Answers.{text_size};
+
+    ghost Value = { List ℕ };
+
+    ghost view = { λ a. take a.len a.bytes };
+
+    ghost invariant = { λ a. a.len ≤ text_size };
+}
+
+fn glyph(d: u8) -> u8
     requires { d < 16 }
     ensures { result ≡ Card·glyph d }
 {
-    if d < 10 {
-        (48 + d) as u8
-    } else {
-        (87 + d) as u8
+    if d < 10 { b'0' + d } else { b'a' + (d - 10) }
+}
+
+// The last digit of a decimal.
+fn digit(n: usize) -> u8
+    ensures { result ≡ Card·glyph (n % 10) }
+{
+    glyph((n % 10) as u8)
+}
+
+impl Answer {
+    pub(crate) fn new() -> Self
+        ensures { result ≡ [] }
+    {
+        Answer {
+            len: 0,
+            bytes: [0; TEXT_SIZE],
+        }
     }
-}
 
-fn put(out: &mut [u8], at: usize, b: u8) -> usize
-    requires { at < length out.old }
-    ensures { Put (b ∷ []) at result out.old out.new }
-{
-    out[at] = b;
-    at + 1
-}
-
-fn put_word(out: &mut [u8], at: usize, word: &[u8]) -> usize
-    requires { at + length word.now ≤ length out.old }
-    ensures { Put word.now at result out.old out.new }
-{
-    let mut next = at;
-    let mut k = 0;
-    while k < word.len() {
-        next = put(out, next, word[k]);
-        k += 1;
+    // The text alone, without the memory behind it.
+    pub fn as_bytes(&self) -> &[u8]
+        ensures { result.now ≡ self.now }
+    {
+        &self.bytes[..self.len]
     }
-    next
-}
 
-// The digit of n that counts d, where n reaches d.
-fn put_higher(out: &mut [u8], at: usize, d: usize, n: usize) -> usize
-    requires { (at < length out.old) × (0 < d) }
-    ensures { Put (higher d n) at result out.old out.new }
-{
-    if n < d {
-        return at;
+    fn push(&mut self, byte: u8)
+        requires { length self.old < text_size }
+        ensures { self.new ≡ self.old ++ (byte ∷ []) }
+    {
+        self.bytes[self.len] = byte;
+        self.len += 1;
     }
-    put(out, at, glyph(n / d % 10))
-}
 
-// A number of at most four digits.
-fn put_decimal(out: &mut [u8], at: usize, n: usize) -> usize
-    requires { at + 4 ≤ length out.old }
-    ensures { Put (decimal_text n) at result out.old out.new }
-{
-    let a = put_higher(out, at, 1000, n);
-    let b = put_higher(out, a, 100, n);
-    let c = put_higher(out, b, 10, n);
-    put(out, c, glyph(n % 10))
-}
-
-fn put_line(out: &mut [u8], at: usize, name: &[u8], n: usize) -> usize
-    requires { at + length name.now + 5 ≤ length out.old }
-    ensures { Put (line_text name.now n) at result out.old out.new }
-{
-    let a = put_word(out, at, name);
-    let b = put_decimal(out, a, n);
-    put(out, b, 10)
-}
-
-// The lines of status and filtered.
-pub fn put_head(out: &mut [u8], status: usize, pieces: usize) -> usize
-    requires { 26 ≤ length out.old }
-    ensures { Put (head_text status pieces) 0 result out.old out.new }
-{
-    let a = put_line(out, 0, b"status=", status);
-    put_line(out, a, b"filtered=", pieces)
-}
-
-fn put_hex(out: &mut [u8], at: usize, row: &[u8]) -> usize
-    requires { at + 2 * length row.now ≤ length out.old }
-    ensures { Put (hex_text row.now) at result out.old out.new }
-{
-    let mut next = at;
-    let mut k = 0;
-    while k < row.len() {
-        let b = row[k] as usize;
-        next = put(out, next, glyph(b / 16));
-        next = put(out, next, glyph(b % 16));
-        k += 1;
+    fn put_word(&mut self, word: &[u8])
+        requires { length self.old + length word.now ≤ text_size }
+        ensures { self.new ≡ self.old ++ word.now }
+    {
+        let end = self.len + word.len();
+        self.bytes[self.len..end].copy_from_slice(word);
+        self.len = end;
     }
-    next
-}
 
-pub fn put_row(out: &mut [u8], at: usize, row: &[u8]) -> usize
-    requires { at + 2 * length row.now + 5 ≤ length out.old }
-    ensures { Put (row_text row.now) at result out.old out.new }
-{
-    let a = put_word(out, at, b"row=");
-    let b = put_hex(out, a, row);
-    put(out, b, 10)
-}
-
-// h rows of a plane, w samples each.
-pub fn put_rows(out: &mut [u8], at: usize, w: usize, h: usize, plane: &[u8]) -> usize
-    requires { (at + h * row_line ≤ length out.old) × (w ≤ width_limit) × (w * h ≤ length plane.now) }
-    ensures { Put (rows_text w plane.now h) at result out.old out.new }
-{
-    let mut next = at;
-    let mut y = 0;
-    while y < h {
-        let from = y * w;
-        let to = from + w;
-        next = put_row(out, next, &plane[from..to]);
-        y += 1;
+    // The digit of n that counts d, where n reaches d.
+    fn put_higher(&mut self, d: usize, n: usize)
+        requires { (length self.old < text_size) × (0 < d) }
+        ensures { self.new ≡ self.old ++ higher d n }
+    {
+        if d <= n {
+            self.push(digit(n / d));
+        }
     }
-    next
+
+    #[tactic(auto, using(crate::proofs::Texts::higher_short), unfolding(definition::specs::Card::decimal_text))]
+    // A number of at most four digits. `write!` answers a Result, which no contract says to be Ok; an answer can't fail.
+    fn put_decimal(&mut self, n: usize)
+        requires { length self.old + 4 ≤ text_size }
+        ensures { self.new ≡ self.old ++ decimal_text n }
+    {
+        self.put_higher(1000, n);
+        self.put_higher(100, n);
+        self.put_higher(10, n);
+        self.push(digit(n));
+    }
+
+    #[tactic(auto, using(crate::proofs::Texts::decimal_short), unfolding(definition::specs::Card::line_text))]
+    fn put_line(&mut self, name: &[u8], n: usize)
+        requires { length self.old + length name.now + 5 ≤ text_size }
+        ensures { self.new ≡ self.old ++ line_text name.now n }
+    {
+        self.put_word(name);
+        self.put_decimal(n);
+        self.push(b'\n');
+    }
+
+    #[tactic(auto, using(crate::proofs::Texts::line_short))]
+    // The lines of status and filtered.
+    pub(crate) fn put_head(&mut self, status: usize, pieces: usize)
+        requires { length self.old + 26 ≤ text_size }
+        ensures { self.new ≡ self.old ++ head_text status pieces }
+    {
+        self.put_line(b"status=", status);
+        self.put_line(b"filtered=", pieces);
+    }
+
+    fn put_hex(&mut self, row: &[u8])
+        requires { length self.old + 2 * length row.now ≤ text_size }
+        ensures { self.new ≡ self.old ++ hex_text row.now }
+    {
+        for sample in row {
+            self.push(glyph(*sample / 16));
+            self.push(glyph(*sample % 16));
+        }
+    }
+
+    #[tactic(auto, using(crate::proofs::Texts::hex_long), unfolding(definition::specs::Card::row_text))]
+    fn put_row(&mut self, row: &[u8])
+        requires { length self.old + 2 * length row.now + 5 ≤ text_size }
+        ensures { self.new ≡ self.old ++ row_text row.now }
+    {
+        self.put_word(b"row=");
+        self.put_hex(row);
+        self.push(b'\n');
+    }
+
+    // h rows of a plane, w samples each.
+    pub(crate) fn put_rows(&mut self, w: usize, h: usize, plane: &[u8])
+        requires { (length self.old + h * row_line ≤ text_size) × (w ≤ width_limit) × (w * h ≤ length plane.now) }
+        ensures { self.new ≡ self.old ++ rows_text w plane.now h }
+    {
+        for y in 0..h {
+            let from = y * w;
+            let to = from + w;
+            self.put_row(&plane[from..to]);
+        }
+    }
 }

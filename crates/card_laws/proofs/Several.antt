@@ -10,7 +10,7 @@ use native.Mathlib.Omega.{arith}
 use borrow.Author.Tests.{eqb-true, eqb-false}
 use lib.Dec.{eqb}
 use lib.ListN.{length, set, take, length-set}
-use lib.Seq.{take_all, take-suc-set}
+use lib.Seq.{take-suc-set}
 use Rattle.definition.specs.Card.{Reading, value, wrong, reading, several}
 
 module _ {A : Type 0} (f : ℕ → ℕ → Reading A) (at : ℕ) where
@@ -58,8 +58,3 @@ module _ {A : Type 0} (f : ℕ → ℕ → Reading A) (at : ℕ) (l₀ : List A)
 
     pub filling_stops : k < length l → f k next ≡ wrong → wrong ≡ several f (length l₀) at
     filling_stops h e = sym (several-wrong f at (length l₀) k next (take k l) (omega (arith, i.size)) i.values e)
-
-    pub filling_ends : length l ≤ k → value l next ≡ several f (length l₀) at
-    filling_ends h =
-        let e : k ≡ length l₀ = omega (arith, i.size, i.inside) in
-        sym (subst (λ n. several f n at ≡ value (take k l) next) e i.values ∙ ap (λ t. value t next) (take_all k l h))

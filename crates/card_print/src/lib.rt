@@ -1,16 +1,32 @@
-// Prints the answer to a card on standard output, and tells how long it is. No contract can say what is written.
+// What the programs that answer cards share: how bytes are read, and how an answer is printed.
 #![tactic(auto)]
 
-ghost use Rattle.std.specs.Prelude.{◌≡◌, length};
+ghost use Rattle.std.specs.Prelude.{◌≡◌, ◌≤◌, length, IfOk};
 ghost use Rattle.definition.specs.Card.{card_answer};
 
-pub fn print_answer(card: &[u8]) -> usize
+use std::io::{self, Read, Write};
+
+// Reads bytes into space until it is full or they end, and tells how many.
+pub fn read_full<R: Read>(reader: &mut R, space: &mut [u8]) -> io::Result<usize>
+    ensures { IfOk result (λ n. n ≤ length space.old) }
+{
+    // How far a read gets is known behind it: there is no range to go through.
+    let mut n = 0;
+    while n < space.len() {
+        match reader.read(&mut space[n..])? {
+            0 => break,
+            got => n += got,
+        }
+    }
+    Ok(n)
+}
+
+// Prints the answer to a card, and tells how long it is, also where a write fails.
+pub fn print_answer<W: Write>(out: &mut W, card: &[u8]) -> usize
     ensures { result ≡ length (card_answer card.now) }
 {
-    let a = card_answer::answer_card(card);
-    let n = a.n;
-    let text = a.text;
-    let all: &[u8] = &text;
-    io::write_all(1, &all[..n]);
-    n
+    let answer = card_answer::answer_card(card);
+    let text = answer.as_bytes();
+    let _ = out.write_all(text);
+    text.len()
 }

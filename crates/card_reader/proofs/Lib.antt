@@ -1,3 +1,3 @@
-pub mod Places
+pub mod Words
 pub mod Planes
 pub mod Meanings

@@ -11,7 +11,7 @@ use Rattle.definition.specs.Card.{value, wrong, several, row_at, rows_at, joined
 use Rattle.card_laws.proofs.Several.{several-none, several-wrong, several_more}
 use Rattle.card_laws.proofs.Planes.{in_plane, rows_in_plane, part-long, joined_more, joined-long, front, behind}
 use Rattle.card_reader.specs.Lines.{Joins}
-use Rattle.card_reader.specs.declared.Line.TheVariants.{Next, Wrong as LineWrong}
+use Rattle.std.specs.Prelude.{Some, None}
 
 -- y rows of w samples were read, and the next starts at a place
 pub record Joined (s : List ℕ) (w at : ℕ) (p₀ p : List ℕ) (next y : ℕ) : Type 0 where
@@ -32,7 +32,7 @@ module _ (s : List ℕ) (w at : ℕ) (p₀ : List ℕ) where
           ap length j.plane ∙ length-append (joined j.rows) (drop (y * w) p₀) ∙
           omega (arith, j.long, length-drop (y * w) p₀, rows_in_plane y w h (length p₀) l room)
 
-      pub row_inside : y < h → y * w + w ≤ length p
+      row_inside : y < h → y * w + w ≤ length p
       row_inside l = omega (arith, in_plane y w h (length p₀) l room, joined-size (omega arith))
 
       pub row-long : y < h → length (take (y * w + w - y * w) (drop (y * w) p)) ≡ w
@@ -56,10 +56,10 @@ module _ (s : List ℕ) (w at : ℕ) (p₀ : List ℕ) where
             plane = put;
           }
 
-    pub joined_stops : (h : ℕ) (q : List ℕ) → y < h → row_at s w next ≡ wrong → Joins (rows_at s w h at) LineWrong p₀ q
+    pub joined_stops : (h : ℕ) (q : List ℕ) → y < h → row_at s w next ≡ wrong → Joins (rows_at s w h at) None p₀ q
     unfolding rows_at
     joined_stops h q l e = rw (several-wrong (λ k. row_at s w) at h y next j.rows l j.values e) tt
 
-    pub joined_ends : (h : ℕ) → y ≡ h → Joins (rows_at s w h at) (Next next) p₀ p
+    pub joined_ends : (h : ℕ) → y ≡ h → Joins (rows_at s w h at) (Some next) p₀ p
     unfolding rows_at
     joined_ends h e = rw (sym e, j.values) (refl, rw j.long j.plane)

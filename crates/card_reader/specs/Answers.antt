@@ -1,36 +1,39 @@
--- What the reader's answers mean: the definition's value for each case of an enum, and its numbers for a card's.
-use Rattle.std.specs.Prelude.{List, ◌++◌, ℕ, ◌-◌, pos, length, replicate}
-use Rattle.definition.specs.Card.{Reading, value, wrong, Meaning, unit, refused, joined}
+-- What the reader's answers mean: the definition's value for each case, and a refusal's number.
+use Rattle.std.specs.Prelude.{List, ◌++◌, ℕ, ◌-◌, length, replicate, Option, Some, None, Result, Ok, Err}
+use Rattle.definition.specs.Answers.{number}
+use Rattle.definition.specs.Card.{Reading, value, wrong, CardUnit, Meaning, unit, refused, joined}
 use Rattle.definition.specs.Limits.{block_row_limit, plane_size}
-use Rattle.card_reader.specs.declared.Number.{Number}
-use Rattle.card_reader.specs.declared.Number.TheVariants.{Value, Wrong}
-use Rattle.card_reader.specs.declared.Line.{Line}
-use Rattle.card_reader.specs.declared.Line.TheVariants.{Next, Wrong as LineWrong}
+use Rattle.definition.specs.declared.Refusal.{Refusal}
 use Rattle.card_reader.specs.declared.Card.{Card}
 
-abbrev pub number_of : Number → Reading ℕ
-number_of (Value n at) = value n at
-number_of Wrong = wrong
+-- a value and the place behind it
+abbrev pub reading_of : {A : Type 0} → Option (A × ℕ) → Reading A
+reading_of (Some r) = value r.0 r.1
+reading_of None = wrong
 
--- a line whose value is a
-abbrev pub line_of : {A : Type 0} → Line → A → Reading A
-line_of (Next at) a = value a at
-line_of LineWrong a = wrong
-
--- the value that was read, and a where there is none
-abbrev pub value_or : {A : Type 0} → A → Reading A → A
-value_or a (value b at) = b
-value_or a wrong = a
+-- the place behind a line whose value is a
+abbrev pub line_of : {A : Type 0} → Option ℕ → A → Reading A
+line_of (Some at) a = value a at
+line_of None a = wrong
 
 -- a list of n, the rest of it zeros
 abbrev pub filled {ℓ} : {A : Type ℓ} → A → ℕ → List A → List A
 filled zero n l = l ++ replicate (n - length l) zero
 
--- a card that is refused has zeros
-abbrev pub refused_card : ℕ → Card
-refused_card status = record { status = status; next = 0; w = 0; h = 0; filter = replicate 16 (pos 0); skip = replicate block_row_limit 0; rows = replicate plane_size 0 }
+-- an answer with the number of its refusal
+abbrev pub numbered : {A : Type 0} → Result A Refusal → Result A ℕ
+numbered (Ok a) = Ok a
+numbered (Err r) = Err (number r)
 
-unfoldable pub card_of : Meaning → Card
-card_of (unit u at) =
-    record { status = 0; next = at; w = u.w; h = u.h; filter = u.filter; skip = filled 0 block_row_limit u.skip; rows = filled 0 plane_size (joined u.rows) }
-card_of (refused status) = refused_card status
+-- the card of a unit
+abbrev pub card : CardUnit → Card
+card u = record { w = u.w; h = u.h; filter = u.filter; skip = filled 0 block_row_limit u.skip; rows = filled 0 plane_size (joined u.rows) }
+
+-- what answers a meaning: its card, and with the place behind it
+unfoldable pub card_of : Meaning → Result Card ℕ
+card_of (unit u at) = Ok (card u)
+card_of (refused status) = Err status
+
+unfoldable pub unit_of : Meaning → Result (Card × ℕ) ℕ
+unit_of (unit u at) = Ok (card u, at)
+unit_of (refused status) = Err status

@@ -1,8 +1,8 @@
 -- THE THREE DEMANDS, each one statement over every operation, by the records that the contracts cite:
---   open_y, open_n, open_p, open_c              promise `Begun`
---   advance_y, advance_n, advance_p, advance_c  promise `Answered` by `answer`
---   the four whole-unit operations              promise `Whole`
---   restore_plane                               promises `PlaneRestored`
+--   open, of each operation                promises `Begun`
+--   advance and advance_by, likewise       promise `Answered` by `answer`
+--   restore, which restores a whole unit   promises `Whole`
+--   restore_plane                          promises `PlaneRestored`
 -- The functions of gihvendu promise what the functions promise that they call. That they take all lengths, offsets, flags and contents: none has a `requires`. That they
 -- end: the checker refuses a loop or a recursion without a measure. The terms are demand_1, demand_2 and demand_3 in proofs/Claims.antt.
 use Rattle.std.specs.Prelude.{◌≡◌, true, cond, ◌||◌, List, ◌≢◌, ℕ, ◌+◌, ◌-◌, ◌*◌, ◌/◌, ◌≤◌, ◌<◌, min, ltb, eqb, ℤ, length, get_or}

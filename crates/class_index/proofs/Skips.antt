@@ -1,12 +1,9 @@
--- The skip sum written out, and the places of its rows.
+-- The skip sum written out.
 use mathlib.Core.Path.{◌≡◌, ◌∙◌}
 use mathlib.Core.List.{List}
-use Prim.Native.Nat.{ℕ, ◌+◌, ◌-◌, ◌*◌, ◌<◌, ◌≤◌, min}
+use Prim.Native.Nat.{ℕ, ◌+◌}
 use native.Mathlib.Omega.{arith}
-use mir.Syntax.{w64}
-use mir.Val.{Fits}
 use Rattle.definition.specs.Numbers.{sum_n}
-use Rattle.definition.specs.Limits.{block_row_limit}
 use Rattle.definition.specs.ClassIndex.{skip_sum, skip_share}
 
 sum_three : (f : ℕ → ℕ) → sum_n 3 f ≡ f 0 + f 1 + f 2
@@ -22,16 +19,3 @@ module _ (noskip : List ℕ) (bh bx by : ℕ) where
   skip_lines =
       sum_three (λ i. sum_n 3 (skip_share noskip bh bx by i)) ∙
       (λ k. sum_three (skip_share noskip bh bx by 0) k + sum_three (skip_share noskip bh bx by 1) k + sum_three (skip_share noskip bh bx by 2) k)
-
--- a row that was clipped to the last is one of the block rows
-pub clipped_row : (at last r : ℕ) → r ≡ min at last → r ≤ last
-clipped_row at last r e = omega arith
-
-pub doubled : {r : ℕ} → r ≤ block_row_limit → Fits w64 (r * 2)
-doubled h = omega arith
-
-pub last-small : (bh : ℕ) → bh ≤ block_row_limit → bh - 1 ≤ block_row_limit
-last-small bh h = omega arith
-
-pub last_in : (bh by len r : ℕ) → by < bh → bh ≤ len → r ≤ bh - 1 → r < len
-last_in bh by len r h k l = omega arith

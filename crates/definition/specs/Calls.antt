@@ -3,6 +3,7 @@ use Rattle.std.specs.Prelude.{List, [], ℕ, ℤ, pos}
 use Rattle.definition.specs.declared.Operation.{Operation}
 use Rattle.definition.specs.declared.Operation.TheVariants.{Luma, User, Pretrained, Chroma}
 use Rattle.definition.specs.declared.Given.{Given}
+use Rattle.definition.specs.declared.Lists.{Lists}
 use Rattle.definition.specs.Units.{Lent}
 
 -- THE NUMBERS that a chroma unit is opened with
@@ -64,6 +65,11 @@ classed_lent left top bottom filters map subclass noskip skip q = unit_lent User
 abbrev pub chroma_lent : List ℕ → List ℕ → List ℕ → List ℤ → List ℕ → List ℕ → List ℕ → List ℕ → Lent
 chroma_lent left top bottom filter luma_plane luma_top luma_bottom skip =
     unit_lent Chroma left top bottom filter [] [] [] [] (pos 0) luma_plane luma_top luma_bottom skip
+
+-- .. and what the code's lists hold
+abbrev pub lists_lent : Operation → Lists → Lent
+lists_lent op l =
+    unit_lent op l.left.now l.top.now l.bottom.now l.filters.now l.wide.now l.map.now l.subclass.now l.noskip.now l.base_q l.luma.now l.luma_top.now l.luma_bottom.now l.skip.now
 
 -- a call of advance: which operation, how many rows, and all that is lent besides the plane
 pub record Call : Type 0 where

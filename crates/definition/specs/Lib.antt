@@ -8,6 +8,7 @@ pub mod Blocks
 pub mod Limits
 pub mod Units
 pub mod Planes
+pub mod Answers
 pub mod Calls
 pub mod Refusals
 pub mod Leaves

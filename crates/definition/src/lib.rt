@@ -1,18 +1,52 @@
-// What the code and the definition both speak of: the operation, what a unit is opened with, and the limits. The rest of the definition stands in specs/.
+// What the code and the definition both speak of: the operation, why a call is refused, what a unit is opened with and lent, and the limits. The rest of the
+// definition stands in specs/.
 #![tactic(auto)]
 
-// The four operations: y, n (user sets), p (pretrained sets), c.
-#[derive(Clone, Copy)]
+ghost use Rattle.std.specs.Prelude.{◌≡◌};
+ghost use Rattle.definition.specs.Answers.{number};
+
+// The four operations, by their numbers in a state: y, n (user sets), p (pretrained sets), c.
+#[derive(Clone, Copy, Debug, PartialEq, Eq)]
 pub enum Operation {
-    Luma,
-    User,
-    Pretrained,
-    Chroma,
+    Luma = 1,
+    User = 2,
+    Pretrained = 3,
+    Chroma = 4,
+}
+
+// Why a call is refused, by the number in the table (docs/SCOPE.md, 'Refusals').
+#[derive(Clone, Copy, Debug, PartialEq, Eq)]
+pub enum Refusal {
+    Width = 1,
+    Height = 2,
+    Stride = 3,
+    Sampling = 4,
+    // A sample or a place lies outside what is lent.
+    Outside = 5,
+    Left = 6,
+    Top = 7,
+    Bottom = 8,
+    Masks = 9,
+    Filters = 10,
+    Luma = 11,
+    Block = 12,
+    State = 13,
+    Card = 14,
+    Plane = 15,
+    Scratch = 16,
+}
+
+impl From<Refusal> for u8 {
+    ghost from_gives = { λ r n. n ≡ number r };
+
+    fn from(refusal: Refusal) -> u8 {
+        refusal as u8
+    }
 }
 
 // The numbers that a unit is opened with; what its operation does not use is 0.
 #[repr(C)]
-#[derive(Clone, Copy)]
+#[derive(Clone, Copy, Default)]
 pub struct Given {
     pub w: usize,
     pub h: usize,
@@ -29,6 +63,41 @@ pub struct Given {
     pub ss_ver: usize,
     pub kind: usize,
 }
+
+// All that a unit is lent besides the plane: of what its operation does not use the lists are empty, and the quantizer is 0.
+#[derive(Clone, Copy)]
+pub struct Lists<'a> {
+    pub left: &'a [u8],
+    pub top: &'a [u8],
+    pub bottom: &'a [u8],
+    // Filters are numbers of 8 bits, but the pretrained sets, which are of 16.
+    pub filters: &'a [i8],
+    pub wide: &'a [i16],
+    pub map: &'a [u8],
+    pub subclass: &'a [u8],
+    pub noskip: &'a [u16],
+    pub base_q: i32,
+    pub luma: &'a [u8],
+    pub luma_top: &'a [u8],
+    pub luma_bottom: &'a [u8],
+    pub skip: &'a [u16],
+}
+
+pub const NO_LISTS: Lists<'static> = Lists {
+    left: &[],
+    top: &[],
+    bottom: &[],
+    filters: &[],
+    wide: &[],
+    map: &[],
+    subclass: &[],
+    noskip: &[],
+    base_q: 0,
+    luma: &[],
+    luma_top: &[],
+    luma_bottom: &[],
+    skip: &[],
+};
 
 // What the table of refusals asks of all that is lent: the lengths, and whether a class map is wrong.
 #[derive(Clone, Copy)]

@@ -51,7 +51,7 @@ pub as_long : {m n : ℕ} {filter : List ℤ} → m ≡ n → Small m filter →
 as_long {filter = filter} e h = subst (λ (k : ℕ). Small k filter) e h
 
 -- a sum of k + m numbers is the first k and then m more
-sum_z_split : (f : ℕ → ℤ) (k m : ℕ) → sum_z (k + m) f ≡ sum_z k f +ℤ sum_z m (λ j. f (k + j))
+pub sum_z_split : (f : ℕ → ℤ) (k m : ℕ) → sum_z (k + m) f ≡ sum_z k f +ℤ sum_z m (λ j. f (k + j))
 unfolding sum_z
 sum_z_split f k zero = let e : k + 0 ≡ k = omega arith in rw e (sym (+ℤ_idr (sum_z k f)))
 sum_z_split f k (suc m) =

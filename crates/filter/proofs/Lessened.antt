@@ -11,7 +11,8 @@ use mir.Val.{SFits, to_z, of_z}
 use mir.Facts.{to_z-of_z}
 use Rattle.laws.proofs.Ints.{sub_pos, sub_neg}
 use Rattle.definition.specs.Numbers.{sum_z}
-use Rattle.definition.specs.Sample.{centre, pair_of, pretrained_sum, pc_config, limit8}
+use Rattle.definition.specs.Leaves.{coefficients}
+use Rattle.definition.specs.Sample.{centre, pair_of, pretrained_sum, pc_config}
 use Rattle.filter.specs.Windows.{less_tap, taken_off, TakenOff}
 
 -- sums of integers: four of them in another order, and a natural factor of two
@@ -59,13 +60,17 @@ less_sum K (suc n) p c =
     swap_middle (pos K *ℤ sum_z n c) (pos K *ℤ c n) (sum_z n (λ k. (pos (p k) -ℤ pos K) *ℤ c k)) ((pos (p n) -ℤ pos K) *ℤ c n) ∙
     ap₂ (λ (a b : ℤ). a +ℤ b) (less_sum K n p c) (less_times K (p n) (c n))
 
-pub lessened : (s : ℤ → ℤ → ℕ) (c : ℕ → ℤ) → taken_off c +ℤ pos (centre s) *ℤ c 12 +ℤ sum_z 12 (less_tap s c) ≡ pretrained_sum s c
-lessened s c =
+pub lessened : (K : ℕ) (s : ℤ → ℤ → ℕ) (c : ℕ → ℤ) → taken_off K c +ℤ pos (centre s) *ℤ c 12 +ℤ sum_z 12 (less_tap K s c) ≡ pretrained_sum s c
+lessened K s c =
     let m : ℤ = pos (centre s) *ℤ c 12 in
-    ap (λ (z : ℤ). z +ℤ sum_z 12 (less_tap s c)) (+ℤ_comm (taken_off c) m) ∙
-    +ℤ_assoc m (taken_off c) (sum_z 12 (less_tap s c)) ∙
-    ap (λ (z : ℤ). m +ℤ z) (less_sum limit8 12 (λ k. pair_of s pc_config k) c)
+    ap (λ (z : ℤ). z +ℤ sum_z 12 (less_tap K s c)) (+ℤ_comm (taken_off K c) m) ∙
+    +ℤ_assoc m (taken_off K c) (sum_z 12 (less_tap K s c)) ∙
+    ap (λ (z : ℤ). m +ℤ z) (less_sum K 12 (λ k. pair_of s pc_config k) c)
+
+-- nothing is taken off where the base is 0
+pub none_off : {filter : List ℤ} → TakenOff 0 filter (pos 0)
+none_off {filter} = record { is = sym (zero-*ℤ (sum_z 12 (coefficients filter))); bound = omega arith }
 
 -- what is taken off, as the machine passes it on
-pub passed_off : {filter : List ℤ} {off : ℤ} → SFits w32 off → TakenOff filter off → TakenOff filter (to_z w32 (of_z w32 off))
-passed_off {filter} fits h = subst (TakenOff filter) (sym (to_z-of_z fits)) h
+pub passed_off : {base : ℕ} {filter : List ℤ} {off : ℤ} → SFits w32 off → TakenOff base filter off → TakenOff base filter (to_z w32 (of_z w32 off))
+passed_off {base} {filter} fits h = subst (TakenOff base filter) (sym (to_z-of_z fits)) h

@@ -54,13 +54,13 @@ module _ {asked : Type 0} {f : ℕ → ℕ} {d₀ : List ℕ} {n : ℕ} {d : Lis
 pub done : (status : ℕ) (d₀ w : List ℕ) {d : List ℕ} → status ≡ 0 → d ≡ w → d ≡ unless_refused status d₀ w
 done status d₀ w z e = rw z e
 
--- a local list of n, of which the first j are f 0, f 1, ..
-pub record Filled (f : ℕ → ℕ) (n : ℕ) (out : List ℕ) (j : ℕ) : Type 0 where
+-- a local list of n, of which the first j are as `made` has them
+pub record Filled (made : ℕ → ℕ → Type 0) (n : ℕ) (out : List ℕ) (j : ℕ) : Type 0 where
   pub size : length out ≡ n
-  pub is : (i : ℕ) → i < j → get_or out i 0 ≡ f i
+  pub is : (i : ℕ) → i < j → made i (get_or out i 0)
 
-pub one-filled : {f : ℕ → ℕ} {n : ℕ} {out : List ℕ} {j v : ℕ} → Filled f n out j → j < n → v ≡ f j → Filled f n (set out j v) (j + 1)
-one-filled {f} {n} {out} {j} {v} h l e =
+pub one_filled : {made : ℕ → ℕ → Type 0} {n : ℕ} {out : List ℕ} {j v : ℕ} → Filled made n out j → j < n → made j v → Filled made n (set out j v) (j + 1)
+one_filled {made} {n} {out} {j} {v} h l e =
     record {
       size = simp length-set h.size;
       is = λ i k.

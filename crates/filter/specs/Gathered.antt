@@ -1,11 +1,11 @@
 -- What the private functions ask and leave of luma that is gathered at chroma's resolution.
-use Rattle.std.specs.Prelude.{ℕ, ◌+◌, ◌*◌, ◌^◌, ◌≤◌, ◌<◌, List, ◌≡◌, ℤ, pos, nat_abs, ◌+ℤ◌, ◌-ℤ◌, ◌*ℤ◌, get_or}
+use Rattle.std.specs.Prelude.{ℕ, ◌+◌, ◌*◌, ◌≤◌, ◌<◌, List, ◌≡◌, ℤ, pos, nat_abs, ◌+ℤ◌, ◌-ℤ◌, ◌*ℤ◌, get_or}
 use Rattle.std.proofs.lemmas.List.Edits.{sets}
 use Rattle.definition.specs.Numbers.{sum_z}
 use Rattle.definition.specs.Rows.{tab, row_bytes, luma_row_bytes, luma_rows_at, chroma_flat}
 use Rattle.definition.specs.Sample.{limit8, rounded, dy_of, dx_of, centre, ns_tap, ns_config_uv, ns_config_uv_from_y}
 use Rattle.definition.specs.Leaves.{coefficients}
-use Rattle.filter.specs.Windows.{RowsReached, Summed, pair_limit}
+use Rattle.filter.specs.Windows.{RowsReached}
 
 -- every `step`-th byte from `from` on
 abbrev pub every : List ℕ → ℕ → ℕ → ℕ → ℕ
@@ -48,10 +48,3 @@ compact_sample rows indices compact filter col x = rounded limit8 (compact_sum (
 
 abbrev pub compact_run : List ℕ → List ℕ → List ℕ → ℕ → List ℕ → List ℤ → ℕ → List ℕ
 compact_run dst rows indices col0 compact filter n = sets dst 0 (tab n (λ x. compact_sample rows indices compact filter (col0 + x) (x + 8)))
-
--- the taps of luma are added up by themselves, each of them at most so far from 0
-abbrev pub luma_tap_limit : ℕ
-luma_tap_limit = pair_limit * 2 ^ 7
-
-abbrev pub FromLumaPartial : List ℕ → ℕ → List ℤ → ℕ → ℤ → Type 0
-FromLumaPartial compact x filter = Summed (x < compact_end) (pos 0) (compact_tap (compact_at compact x) (coefficients filter)) 0 luma_tap_limit

@@ -1,3 +1,4 @@
 pub mod Windows
 pub mod Gathered
 pub mod Groups
+pub mod Taps

@@ -1,9 +1,9 @@
 -- What the private functions of the runs ask: rows that the indices do not lead out of, and a tap that stays in its row.
-use Rattle.std.specs.Prelude.{ℕ, ◌+◌, ◌*◌, ◌^◌, ◌≤◌, ◌<◌, min, Bool, ◌&&◌, List, leb, ◌≡◌, ℤ, pos, neg_ℤ, nat_abs, ◌+ℤ◌, ◌-ℤ◌, ◌*ℤ◌, length, get_or}
+use Rattle.std.specs.Prelude.{ℕ, ◌+◌, ◌*◌, ◌^◌, ◌≤◌, ◌<◌, min, Bool, ◌&&◌, List, leb, ◌≡◌, ℤ, pos, neg_ℤ, nat_abs, ◌-ℤ◌, ◌*ℤ◌, length, get_or}
 use Rattle.definition.specs.Numbers.{sum_z}
-use Rattle.definition.specs.Rows.{row_bytes, luma_flat, chroma_flat, index_count}
+use Rattle.definition.specs.Rows.{row_bytes, index_count}
 use Rattle.definition.specs.Refusals.{indices_up_to}
-use Rattle.definition.specs.Sample.{limit8, centre, pair_of, ns_tap, ns_config_y, ns_config_uv, pc_config}
+use Rattle.definition.specs.Sample.{limit8, pair_of, pc_config}
 use Rattle.laws.proofs.Sums.{Partial}
 use Rattle.definition.specs.Leaves.{coefficients, window_inside}
 
@@ -84,32 +84,17 @@ pub record Turned (col0 x n last at skip m : ℕ) : Type 0 where
   pub eight : skip + m ≤ 8
   pub end : x + m ≤ n
 
--- a pretrained filter's tap, whose pair is less the largest sample, and what the twelve of them take off
-abbrev pub less_tap : (ℤ → ℤ → ℕ) → (ℕ → ℤ) → ℕ → ℤ
-less_tap s c k = (pos (pair_of s pc_config k) -ℤ pos limit8) *ℤ c k
+-- a pretrained filter's tap, whose pair is less a base, and what the twelve of them take off
+abbrev pub less_tap : ℕ → (ℤ → ℤ → ℕ) → (ℕ → ℤ) → ℕ → ℤ
+less_tap base s c k = (pos (pair_of s pc_config k) -ℤ pos base) *ℤ c k
 
-abbrev pub taken_off : (ℕ → ℤ) → ℤ
-taken_off c = pos limit8 *ℤ sum_z 12 c
+abbrev pub taken_off : ℕ → (ℕ → ℤ) → ℤ
+taken_off base c = pos base *ℤ sum_z 12 c
 
-pub record TakenOff (filter : List ℤ) (off : ℤ) : Type 0 where
-  pub is : off ≡ taken_off (coefficients filter)
+pub record TakenOff (base : ℕ) (filter : List ℤ) (off : ℤ) : Type 0 where
+  pub is : off ≡ taken_off base (coefficients filter)
   pub bound : nat_abs off ≤ taken_off_limit
 
--- the sum of a pretrained filter after k of those taps
-abbrev pub PretrainedPartial : List ℕ → List ℕ → ℕ → List ℤ → ℕ → ℤ → Type 0
-PretrainedPartial rows indices col filter =
-    Summed (Window 0 row_bytes 4 rows indices col)
-    (taken_off (coefficients filter) +ℤ pos (centre (luma_flat rows indices col)) *ℤ coefficients filter 12)
-    (less_tap (luma_flat rows indices col) (coefficients filter)) (taken_off_limit + centre_limit) less_tap_limit
-
--- the sums of the other filters after k taps
-module _ (rows indices : List ℕ) (col : ℕ) (filter : List ℤ) where
-  abbrev pub LumaPartial : ℕ → ℤ → Type 0
-  LumaPartial =
-      Summed (Window 0 row_bytes 4 rows indices col)
-      (pos (128 * centre (luma_flat rows indices col))) (ns_tap (luma_flat rows indices col) (coefficients filter) ns_config_y) start_limit ns_tap_limit
-
-  abbrev pub ChromaPartial : ℕ → ℤ → Type 0
-  ChromaPartial =
-      Summed (Window 0 row_bytes 2 rows indices col)
-      (pos (128 * centre (chroma_flat rows indices col))) (ns_tap (chroma_flat rows indices col) (coefficients filter) ns_config_uv) start_limit ns_tap_limit
+-- what eight samples from a byte between two on are, by what works them out
+pub record Gives (post : ℕ → List ℕ → Type 0) (first last : ℕ) (f : ℕ → ℕ) : Type 0 where
+  pub sample : (at : ℕ) (eight : List ℕ) → first ≤ at → at ≤ last → post at eight → (j : ℕ) → j < 8 → get_or eight j 0 ≡ f (at + j)

@@ -4,23 +4,30 @@
 // read from a copy (narrow.rt).
 #![tactic(auto)]
 
-ghost use Rattle.std.specs.Prelude.{◌≡◌, length};
-ghost use Rattle.definition.specs.Leaves.{run_status, uv_status, luma_run, pretrained_run, chroma_run};
+ghost use Rattle.std.specs.Prelude.{true, ◌≡◌, ℕ, ◌+◌, ◌-◌, ◌<◌, ◌≤◌, length, get_or};
+ghost use Rattle.definition.specs.Answers.{status_from};
+ghost use Rattle.definition.specs.Rows.{luma_flat};
+ghost use Rattle.definition.specs.Sample.{limit8, luma_sample, pretrained_sample};
+ghost use Rattle.definition.specs.Leaves.{coefficients, run_status, uv_status, luma_run, pretrained_run, chroma_run};
+ghost use Rattle.filter.specs.Windows.{Eight, TakenOff};
+ghost use Rattle.filter.specs.Groups.{Small};
+ghost use Rattle.filter.specs.Gathered.{compact_sample};
 
 mod chroma;
 mod luma;
 mod narrow;
 mod pretrained;
+mod sums;
 mod taps;
 mod turns;
 
-use chroma::{gather, uv_narrow_run, uv_run, uv_status};
-use definition::{INDEX_COUNT, ROW_BYTES};
+use chroma::{LAST_CHROMA_EIGHT, gather, luma_from, uv_eight, uv_narrow_eight, uv_status};
+use definition::{INDEX_COUNT, ROW_BYTES, Refusal};
 use luma::y_eight_by;
 use narrow::worth_groups;
 use pretrained::{is_small_set, pc_eight_by, taken_off};
 use taps::run_status;
-use turns::{next_turn, put};
+use turns::run;
 
 // The byte that the last eight samples of a row begin at: their taps reach four columns further on both sides.
 const LAST_EIGHT: usize = ROW_BYTES - 8 - 4;
@@ -33,25 +40,26 @@ pub fn ns_wiener_fir_run(
     col0: usize,
     filter: &[i8; 16],
     n: usize,
-) -> u8
-    ensures value { result ≡ run_status (length dst.old) (length rows.now) indices.now col0 n }
+) -> Result<(), Refusal>
+    ensures value { status_from result ≡ run_status (length dst.old) (length rows.now) indices.now col0 n }
     ensures dst_after { dst.new ≡ luma_run dst.old rows.now indices.now col0 filter.now n }
 {
-    let status = run_status(dst.len(), rows.len(), indices, col0, n);
-    if status != 0 {
-        return status;
-    }
+    run_status(dst.len(), rows.len(), indices, col0, n)?;
     let ix = *indices;
     let small = worth_groups(filter, n);
     let copy = *filter;
-    let mut x = 0;
-    while x < n {
-        let t = next_turn(col0, x, n, LAST_EIGHT);
-        let eight = y_eight_by(rows, &ix, t.at, filter, &copy, small);
-        put(dst, x, eight, t.skip, t.m);
-        x += t.m;
-    }
-    0
+    run(
+        dst,
+        col0,
+        n,
+        LAST_EIGHT,
+        |at|
+            requires eight { Eight 4 rows.now ix at }
+            requires copy_value { (copy ≡ filter.now) × (small ≡ true → Small 16 copy) }
+            ensures { (j : ℕ) → j < 8 → get_or result j 0 ≡ luma_sample limit8 (luma_flat rows.entry.now ix (at + j)) (coefficients filter.entry.now) }
+        { y_eight_by(rows, &ix, at, filter, &copy, small) },
+    );
+    Ok(())
 }
 
 // The n samples from byte col0 on, restored by a pretrained set.
@@ -62,26 +70,28 @@ pub fn pc_wiener_fir_run(
     col0: usize,
     filter: &[i16; 13],
     n: usize,
-) -> u8
-    ensures value { result ≡ run_status (length dst.old) (length rows.now) indices.now col0 n }
+) -> Result<(), Refusal>
+    ensures value { status_from result ≡ run_status (length dst.old) (length rows.now) indices.now col0 n }
     ensures dst_after { dst.new ≡ pretrained_run dst.old rows.now indices.now col0 filter.now n }
 {
-    let status = run_status(dst.len(), rows.len(), indices, col0, n);
-    if status != 0 {
-        return status;
-    }
+    run_status(dst.len(), rows.len(), indices, col0, n)?;
     let ix = *indices;
     let off = taken_off(filter);
     let small = is_small_set(filter);
     let copy = *filter;
-    let mut x = 0;
-    while x < n {
-        let t = next_turn(col0, x, n, LAST_EIGHT);
-        let eight = pc_eight_by(rows, &ix, t.at, filter, off, &copy, small);
-        put(dst, x, eight, t.skip, t.m);
-        x += t.m;
-    }
-    0
+    run(
+        dst,
+        col0,
+        n,
+        LAST_EIGHT,
+        |at|
+            requires eight { Eight 4 rows.now ix at }
+            requires taken_off { TakenOff limit8 filter.now off }
+            requires copy_value { (copy ≡ filter.now) × (small ≡ true → Small 12 copy) }
+            ensures { (j : ℕ) → j < 8 → get_or result j 0 ≡ pretrained_sample limit8 (luma_flat rows.entry.now ix (at + j)) (coefficients filter.entry.now) }
+        { pc_eight_by(rows, &ix, at, filter, off, &copy, small) },
+    );
+    Ok(())
 }
 
 // The n chroma samples from byte col0 on; lcol0 is the byte of the first one's luma sample, step the luma columns to a chroma column.
@@ -94,21 +104,40 @@ pub fn ns_wiener_uv_fir_run(
     step: usize,
     filter: &[i8; 18],
     n: usize,
-) -> u8
-    ensures value { result ≡ uv_status (length dst.old) (length rows.now) indices.now col0 lcol0 step n }
+) -> Result<(), Refusal>
+    ensures value { status_from result ≡ uv_status (length dst.old) (length rows.now) indices.now col0 lcol0 step n }
     ensures dst_after { dst.new ≡ chroma_run dst.old rows.now indices.now col0 lcol0 step filter.now n }
 {
-    let status = uv_status(dst.len(), rows.len(), indices, col0, lcol0, step, n);
-    if status != 0 {
-        return status;
-    }
+    uv_status(dst.len(), rows.len(), indices, col0, lcol0, step, n)?;
     let ix = *indices;
     let compact = gather(rows, &ix, lcol0 - 2 * step, step, n);
+    // A small filter has a loop of its own: one loop for both ways is slower.
     if worth_groups(filter, n) {
         let copy = *filter;
-        uv_narrow_run(dst, rows, &ix, col0, &compact, &copy, n);
-        return 0;
+        run(
+            dst,
+            col0,
+            n,
+            LAST_CHROMA_EIGHT,
+            |at|
+                requires eight { Eight 2 rows.now ix at }
+                requires col0_bound { (2 ≤ col0) × (col0 ≤ at + 8) }
+                requires small { Small 18 copy }
+                ensures { (j : ℕ) → j < 8 → get_or result j 0 ≡ compact_sample rows.entry.now ix compact copy (at + j) (at + 8 - col0 + j) }
+            { uv_narrow_eight(rows, &ix, at, &compact, luma_from(at, col0), &copy) },
+        );
+        return Ok(());
     }
-    uv_run(dst, rows, &ix, col0, &compact, filter, n);
-    0
+    run(
+        dst,
+        col0,
+        n,
+        LAST_CHROMA_EIGHT,
+        |at|
+            requires eight { Eight 2 rows.now ix at }
+            requires col0_bound { (2 ≤ col0) × (col0 ≤ at + 8) }
+            ensures { (j : ℕ) → j < 8 → get_or result j 0 ≡ compact_sample rows.entry.now ix compact filter.entry.now (at + j) (at + 8 - col0 + j) }
+        { uv_eight(rows, &ix, at, &compact, luma_from(at, col0), filter) },
+    );
+    Ok(())
 }

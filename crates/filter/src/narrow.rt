@@ -43,12 +43,10 @@ fn is_small(filter: &[i8]) -> bool
     ensures { result ≡ true → Small (length filter.now) filter.now }
 {
     let mut small = true;
-    let mut k = 0;
-    while k < filter.len() {
-        if is_large(filter[k] as i16) {
+    for c in filter {
+        if is_large(*c as i16) {
             small = false;
         }
-        k += 1;
     }
     small
 }
@@ -57,8 +55,5 @@ fn is_small(filter: &[i8]) -> bool
 pub fn worth_groups(filter: &[i8], n: usize) -> bool
     ensures { result ≡ true → Small (length filter.now) filter.now }
 {
-    if n <= 8 {
-        return false;
-    }
-    is_small(filter)
+    8 < n && is_small(filter)
 }

@@ -1,12 +1,13 @@
 // What the three runs share: whether they stay inside, where a tap leads, what it adds, and the rounding.
 ghost use Rattle.std.specs.Prelude.{◌≡◌, ◌+◌, ◌*◌, ◌^◌, ◌<◌, ◌≤◌, pos, nat_abs, ◌+ℤ◌, ◌-ℤ◌, ◌*ℤ◌};
+ghost use Rattle.definition.specs.Answers.{status_from};
 ghost use Rattle.definition.specs.Numbers.{clip_to};
-ghost use Rattle.definition.specs.Rows.{flat_around, row_bytes, index_count};
+ghost use Rattle.definition.specs.Rows.{outside_unless, flat_around, row_bytes, index_count};
 ghost use Rattle.definition.specs.Sample.{limit8, rounded, centre};
 ghost use Rattle.definition.specs.Leaves.{run_status};
-ghost use Rattle.filter.specs.Windows.{own_inside, RowsReached, Spot, PairAt, pair_limit, start_limit, ns_tap_limit};
+ghost use Rattle.filter.specs.Windows.{own_inside, RowsReached, Spot, PairAt, start_limit};
 
-use definition::{INDEX_COUNT, ROW_BYTES, ROWS_SIZE, SAMPLE_LIMIT};
+use definition::{INDEX_COUNT, ROW_BYTES, ROWS_SIZE, Refusal, SAMPLE_LIMIT};
 
 // The largest sample, in the width that sums are taken in.
 pub const LIMIT: i32 = SAMPLE_LIMIT as i32;
@@ -15,13 +16,7 @@ pub const LIMIT: i32 = SAMPLE_LIMIT as i32;
 fn clipped(v: i32) -> i32
     ensures { result ≡ pos (clip_to limit8 v) }
 {
-    if v < 0 {
-        return 0;
-    }
-    if v > LIMIT {
-        return LIMIT;
-    }
-    v
+    v.clamp(0, LIMIT)
 }
 
 // (s + 64) >> 7, clipped to a byte: the rounding of all three filters.
@@ -47,34 +42,34 @@ pub fn own_inside(
 ) -> bool
     ensures { result ≡ own_inside dst rows indices.now col0 n size limit e }
 {
-    if dst < n {
-        return false;
-    }
-    if rows < size {
-        return false;
-    }
-    if !bounds::indices_up_to(indices, limit) {
-        return false;
-    }
-    if col0 < e {
-        return false;
-    }
-    bounds::room(col0, n, e, ROW_BYTES)
+    n <= dst
+        && size <= rows
+        && bounds::indices_up_to(indices, limit)
+        && e <= col0
+        && bounds::room(col0, n, e, ROW_BYTES)
 }
 
+pub fn outside_unless(inside: bool) -> Result<(), Refusal>
+    ensures { status_from result ≡ outside_unless inside }
+{
+    if inside {
+        Ok(())
+    } else {
+        Err(Refusal::Outside)
+    }
+}
+
+#[tactic(auto, unfolding(definition::specs::Leaves::run_status))]
 pub fn run_status(
     dst: usize,
     rows: usize,
     indices: &[usize; INDEX_COUNT],
     col0: usize,
     n: usize,
-) -> u8
-    ensures { result ≡ run_status dst rows indices.now col0 n }
+) -> Result<(), Refusal>
+    ensures { status_from result ≡ run_status dst rows indices.now col0 n }
 {
-    if !own_inside(dst, rows, indices, col0, n, ROWS_SIZE, 9, 4) {
-        return 5;
-    }
-    0
+    outside_unless(own_inside(dst, rows, indices, col0, n, ROWS_SIZE, 9, 4))
 }
 
 // The place d further than at.
@@ -129,14 +124,6 @@ pub fn pair_at(
     let a = byte_at(rows, indices, 0, ROW_BYTES, mid, col, dy, dx);
     let b = byte_at(rows, indices, 0, ROW_BYTES, mid, col, 0 - dy, 0 - dx);
     a as u32 + b as u32
-}
-
-// s + (p - 2m) c
-pub fn ns_tap(s: i32, p: u32, m: u8, c: i8) -> i32
-    requires { (nat_abs s < 2 ^ 30) × (p ≤ pair_limit) }
-    ensures { (result ≡ s +ℤ (pos p -ℤ pos (2 * m)) *ℤ c) × (nat_abs result ≤ nat_abs s + ns_tap_limit) }
-{
-    s + (p as i32 - 2 * m as i32) * c as i32
 }
 
 // 128 times the centre, from which the luma and chroma filters start.

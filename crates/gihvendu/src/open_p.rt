@@ -1,48 +1,53 @@
 ghost use Rattle.definition.specs.declared.Operation.TheVariants.{Pretrained};
-ghost use Rattle.units.specs.Openings.{Begun};
 ghost use Rattle.definition.specs.Calls.{given_y, classed_lent};
+ghost use Rattle.units.specs.Openings.{Begun};
 
+use definition::{Given, Lists, NO_LISTS, Operation};
 use units::Opened;
 
 #[unsafe(no_mangle)]
-pub extern "C" fn gihvendu_open_p(
-    p: &[u8],
+pub extern "C" fn gihvendu_open_p<'a>(
+    p: &'a [u8],
     p_off: usize,
     stride: usize,
-    left: &[u8],
-    lpf: &[u8],
+    left: &'a [u8],
+    lpf: &'a [u8],
     lpf_off: usize,
-    lpf_bottom: &[u8],
+    lpf_bottom: &'a [u8],
     lpf_bottom_off: usize,
     w: usize,
     h: usize,
-    filters: &[i16],
-    map: &[u8],
-    subclass: &[u8],
-    noskip: &[u16],
+    filters: &'a [i16],
+    map: &'a [u8],
+    subclass: &'a [u8],
+    noskip: &'a [u16],
     base_q: i32,
     edges: usize,
-    skip: &[u16],
+    skip: &'a [u16],
 ) -> Opened
     ensures { Begun Pretrained result (given_y w h edges stride p_off lpf_off lpf_bottom_off) (classed_lent left.now lpf.now lpf_bottom.now filters.now map.now subclass.now noskip.now skip.now base_q) p.now }
 {
-    units::open_p(
-        p,
-        p_off,
-        stride,
-        left,
-        lpf,
-        lpf_off,
-        lpf_bottom,
-        lpf_bottom_off,
+    let g = Given {
         w,
         h,
-        filters,
+        edges,
+        stride,
+        off: p_off,
+        top_off: lpf_off,
+        bottom_off: lpf_bottom_off,
+        ..Given::default()
+    };
+    let lent = Lists {
+        left,
+        top: lpf,
+        bottom: lpf_bottom,
+        wide: filters,
         map,
         subclass,
         noskip,
         base_q,
-        edges,
         skip,
-    )
+        ..NO_LISTS
+    };
+    Opened::from(units::open(Operation::Pretrained, g, p, &lent))
 }

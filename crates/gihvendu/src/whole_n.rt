@@ -1,48 +1,53 @@
 ghost use Rattle.definition.specs.declared.Operation.TheVariants.{User};
+ghost use Rattle.definition.specs.Calls.{given_y, classed_lent};
 ghost use Rattle.whole.specs.Whole.{Whole};
-ghost use Rattle.definition.specs.Calls.{classed_lent, given_y};
 
+use definition::{Given, Lists, NO_LISTS, Operation};
 use whole::Restored;
 
 #[unsafe(no_mangle)]
-pub extern "C" fn gihvendu_ns_wiener_multi_8bpc(
+pub extern "C" fn gihvendu_ns_wiener_multi_8bpc<'a>(
     p: &mut [u8],
     p_off: usize,
     stride: usize,
-    left: &[u8],
-    lpf: &[u8],
+    left: &'a [u8],
+    lpf: &'a [u8],
     lpf_off: usize,
-    lpf_bottom: &[u8],
+    lpf_bottom: &'a [u8],
     lpf_bottom_off: usize,
     w: usize,
     h: usize,
-    filters: &[i8],
-    map: &[u8],
-    subclass: &[u8],
-    noskip: &[u16],
+    filters: &'a [i8],
+    map: &'a [u8],
+    subclass: &'a [u8],
+    noskip: &'a [u16],
     base_q: i32,
     edges: usize,
-    skip: &[u16],
+    skip: &'a [u16],
 ) -> Restored
     ensures { Whole User result (given_y w h edges stride p_off lpf_off lpf_bottom_off) (classed_lent left.now lpf.now lpf_bottom.now filters.now map.now subclass.now noskip.now skip.now base_q) p.old p.new }
 {
-    whole::ns_wiener_multi_8bpc(
-        p,
-        p_off,
-        stride,
-        left,
-        lpf,
-        lpf_off,
-        lpf_bottom,
-        lpf_bottom_off,
+    let g = Given {
         w,
         h,
+        edges,
+        stride,
+        off: p_off,
+        top_off: lpf_off,
+        bottom_off: lpf_bottom_off,
+        ..Given::default()
+    };
+    let lent = Lists {
+        left,
+        top: lpf,
+        bottom: lpf_bottom,
         filters,
         map,
         subclass,
         noskip,
         base_q,
-        edges,
         skip,
-    )
+        ..NO_LISTS
+    };
+    Restored::from(whole::restore(Operation::User, g, p, &lent))
 }

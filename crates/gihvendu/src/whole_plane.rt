@@ -15,5 +15,5 @@ pub extern "C" fn gihvendu_restore_plane(
 ) -> Restored
     ensures { PlaneRestored result w h unit count filter.now skip.now scratch.old scratch.new p.old p.new }
 {
-    plane::restore_plane(p, w, h, unit, count, filter, skip, scratch)
+    Restored::from(plane::restore_plane(p, w, h, unit, count, filter, skip, scratch))
 }

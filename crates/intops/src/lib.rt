@@ -7,43 +7,37 @@ ghost use Rattle.definition.specs.Numbers.{max_z, min_z, clip_z, to_i32};
 pub fn imax(a: i32, b: i32) -> i32
     ensures { result ≡ max_z a b }
 {
-    if a < b { b } else { a }
+    a.max(b)
 }
 
 pub fn imin(a: i32, b: i32) -> i32
     ensures { result ≡ min_z a b }
 {
-    if b < a { b } else { a }
+    a.min(b)
 }
 
-// The Rust's clamp panics where least is over most; here the test against least comes first.
 pub fn iclip(v: i32, least: i32, most: i32) -> i32
     ensures { result ≡ clip_z least most v }
 {
-    if v < least {
-        return least;
-    }
-    if most < v {
-        return most;
-    }
-    v
+    iclip64to32(i64::from(v), least, most)
 }
 
+// The Rust's clamp panics where least is over most; here the test against least comes first.
 pub fn iclip64to32(v: i64, least: i32, most: i32) -> i32
     ensures { result ≡ clip_z least most v }
 {
-    if v < least as i64 {
-        return least;
+    if v < i64::from(least) {
+        least
+    } else if i64::from(most) < v {
+        most
+    } else {
+        v as i32
     }
-    if (most as i64) < v {
-        return most;
-    }
-    v as i32
 }
 
-// The sum, clipped to an i32.
+// The sum, clipped to an i32. With the library's method a class index takes a tenth longer.
 pub fn saturating_add(a: i32, b: i32) -> i32
     ensures { result ≡ to_i32 (a +ℤ b) }
 {
-    iclip64to32(a as i64 + b as i64, -2147483648, 2147483647)
+    iclip64to32(a as i64 + b as i64, i32::MIN, i32::MAX)
 }

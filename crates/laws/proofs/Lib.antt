@@ -9,3 +9,4 @@ pub mod Passes
 pub mod Tests
 pub mod Checks
 pub mod Inside
+pub mod Answers

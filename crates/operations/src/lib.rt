@@ -13,9 +13,7 @@ pub fn border_of(op: Operation) -> usize
     ensures { (result ≡ border op) × (result ≤ 4) }
 {
     match op {
-        Operation::Luma => 4,
-        Operation::User => 4,
-        Operation::Pretrained => 4,
+        Operation::Luma | Operation::User | Operation::Pretrained => 4,
         Operation::Chroma => 2,
     }
 }
@@ -24,39 +22,24 @@ pub fn border_of(op: Operation) -> usize
 pub fn number_of(op: Operation) -> usize
     ensures { result ≡ number_of op }
 {
-    match op {
-        Operation::Luma => 1,
-        Operation::User => 2,
-        Operation::Pretrained => 3,
-        Operation::Chroma => 4,
-    }
+    op as usize
 }
 
 // Whether it has classes.
 pub fn is_classed(op: Operation) -> bool
     ensures { result ≡ classed op }
 {
-    match op {
-        Operation::Luma => false,
-        Operation::User => true,
-        Operation::Pretrained => true,
-        Operation::Chroma => false,
-    }
+    matches!(op, Operation::User | Operation::Pretrained)
 }
 
 // Whether it reads luma rows beside its own.
 pub fn is_chroma(op: Operation) -> bool
     ensures { result ≡ chromatic op }
 {
-    match op {
-        Operation::Luma => false,
-        Operation::User => false,
-        Operation::Pretrained => false,
-        Operation::Chroma => true,
-    }
+    op == Operation::Chroma
 }
 
-// The numbers of a filter, or of a set of filters.
+// The numbers of a filter, or of a set of filters: four arms, as the table has them.
 pub fn set_size(op: Operation) -> usize
     ensures { (result ≡ set_size op) × (0 < result) }
 {
@@ -73,12 +56,12 @@ pub fn top_rows(op: Operation, edges: usize) -> usize
     ensures { (result ≡ top_rows op edges) × (result ≤ 4) }
 {
     if is_set(edges, 4) {
-        return border_of(op);
+        border_of(op)
+    } else if is_set(edges, 2) {
+        2
+    } else {
+        0
     }
-    if is_set(edges, 2) {
-        return 2;
-    }
-    0
 }
 
 // Luma rows or columns to one of chroma, by the subsampling of that side, which is 0 or 1.

@@ -24,11 +24,6 @@ pub row-column : (bytes : List ℕ) (s j e : ℕ) → e ≤ s + j → row_at byt
 row-column bytes s j zero h = same_byte bytes (s + (j + 0)) (s + j - 0) (omega arith)
 row-column bytes s j (suc e) h = ap (byte_at bytes) (sym (+ℤ_assoc (pos s) (pos j) (negsuc e)) ∙ before_pos (s + j) e h)
 
--- samples that are padded from only where an edge bit is set
-pub beside-inside : (b : Bool) (e n : ℕ) → (b ≡ true → e ≤ n) → beside b e ≤ n
-beside-inside true e n f = f refl
-beside-inside false e n f = omega arith
-
 pub beside_set : (b : Bool) (e : ℕ) → b ≡ true → beside b e ≡ e
 beside_set true e h = refl
 beside_set false e h = absurd (never h)
@@ -53,7 +48,7 @@ module _ (src left : List ℕ) (o src_o left_o w e : ℕ) (some : 1 ≤ w) (fron
   abbrev column : Bool → Bool → ℕ → ℕ
   column L R j = padded L R w (w - 1) (after left left_o (row_at src (pos src_o))) (pos j -ℤ pos e)
 
-  before_at : (L R : Bool) (j : ℕ) → j < e → (L ≡ true → e ≤ left_o) → cond L (get_or left (left_o - beside L e + j) 0) (get_or src src_o 0) ≡ column L R j
+  before_at : (L R : Bool) (j : ℕ) → j < e → (L ≡ true → e ≤ left_o) → cond L (get_or left (left_o - e + j) 0) (get_or src src_o 0) ≡ column L R j
   before_at true R j h b =
       let l : e ≤ left_o = b refl in
       let n : left_o - e + j ≡ left_o - suc (e - suc j) = omega arith in
@@ -76,7 +71,7 @@ module _ (src left : List ℕ) (o src_o left_o w e : ℕ) (some : 1 ≤ w) (fron
       rw (d, ← from_first L R (w + j), le-ltb (w + j) w (omega arith), p, q)
 
   pub row_written : (L R : Bool) (dst : List ℕ) → (L ≡ true → e ≤ left_o) →
-      sets (sets (sets dst (o - e) (tab e (λ j. cond L (get_or left (left_o - beside L e + j) 0) (get_or src src_o 0))))
+      sets (sets (sets dst (o - e) (tab e (λ j. cond L (get_or left (left_o - e + j) 0) (get_or src src_o 0))))
       o (tab w (λ j. get_or src (src_o + j) 0))) (o + w) (tab e (λ j. cond R (get_or src (src_o + w + j) 0) (get_or src (src_o + w - 1) 0))) ≡
       sets dst (o - e) (tab (e + w + e) (column L R))
   row_written L R dst b =

@@ -19,9 +19,6 @@ pub record WholeSteps (b : Bool) (j n : ℕ) : Type 0 where
   pub inside : j ≤ n
   pub even : b ≡ true → j % 2 ≡ 0
 
-pub whole-none : (b : Bool) (n : ℕ) → WholeSteps b 0 n
-whole-none b n = record { inside = omega arith; even = λ e. refl }
-
 whole-step : (b : Bool) (j n : ℕ) → WholeSteps b j n → j < n → (b ≡ true → n % 2 ≡ 0) → WholeSteps b (j + cond b 2 1) n
 whole-step true j n w h e =
     let p = w.even refl in
@@ -51,13 +48,6 @@ step_more true dst at f j e =
     let o : (j + 1) % 2 ≡ 1 = let p = e refl in omega arith in
     rw d (one_more true dst at f j e ∙ sym (sets_kept (j + 1) dst at (each true dst at f) (each_odd dst at f (j + 1) o)))
 step_more false dst at f j e = one_more false dst at f j e
-
-step-bound : (b : Bool) → (1 ≤ cond b 2 1) × (cond b 2 1 ≤ 2)
-step-bound true = (omega arith, omega arith)
-step-bound false = (omega arith, omega arith)
-
-pub step-size : (v k step : ℕ) → step ≡ cond (even_only v k) 2 1 → (1 ≤ step) × (step ≤ 2)
-step-size v k step is = rw is (step-bound (even_only v k))
 
 module _ (v k step j n : ℕ) (is : step ≡ cond (even_only v k) 2 1) (w : WholeSteps (even_only v k) j n) where
   pub whole_more : j < n → (even_only v k ≡ true → n % 2 ≡ 0) → WholeSteps (even_only v k) (j + step) n

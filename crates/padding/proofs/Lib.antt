@@ -1,3 +1,4 @@
+pub mod Put
 pub mod Columns
 pub mod Filled
 pub mod Around

@@ -7,7 +7,7 @@ use native.Mathlib.Decide.{dec_lt, ℕ_discrete}
 use native.Mathlib.Omega.{arith}
 use lib.Dec.{eqb}
 use lib.IntN.{ℤ, pos, negsuc, ◌+ℤ◌, ◌-ℤ◌, +ℤ_assoc, +ℤ_comm}
-use lib.ListN.{length, get_or, set, take, drop, length-take, length-drop}
+use lib.ListN.{length, get_or, set, take, drop}
 use lib.Seq.{sets, set_comm, get_or-take, get_or-drop}
 use borrow.Author.Tests.{lt-ltb, le-ltb, eq-eqb, ne_eqb}
 use Rattle.definition.specs.Rows.{tab}
@@ -15,7 +15,7 @@ use Rattle.definition.specs.Padding.{row_at, padded, mixed, even_only}
 use Rattle.definition.specs.Refusals.{beside}
 use Rattle.laws.proofs.Ints.{never, sub_pos, sub_neg}
 use Rattle.laws.proofs.Lists.{tab_cong, length_tab, get_or-tab, sets_run, sets_before, sets_behind, sets_in}
-use Rattle.definition.specs.Leaves.{lower_at, source}
+use Rattle.definition.specs.Leaves.{lower_at}
 use Rattle.padding.specs.Steps.{columns, repeated}
 use Rattle.padding.proofs.Around.{same_byte, row-column}
 use Rattle.padding.proofs.Filled.{unmasked}
@@ -80,13 +80,6 @@ side false = record { is = refl; small = omega arith; even = refl; lent = λ h. 
 -- as the code finds it
 pub side_of : (b c : Bool) (n : ℕ) → c ≡ b → n ≡ beside c 4 → Side b n
 side_of b c n p q = rw (q, p) (side b)
-
-pub source-below : (b : Bool) (plane saved : List ℕ) (n : ℕ) → length plane < n → length saved < n → length (source b plane saved) < n
-source-below true plane saved n p q = q
-source-below false plane saved n p q = p
-
-pub part_length : (l : List ℕ) (a n : ℕ) → a + n ≤ length l → length (take n (drop a l)) ≡ n
-part_length l a n h = simp (length-take, length-drop) (omega arith)
 
 two_runs : (l : List ℕ) (a b n m : ℕ) (f : ℕ → ℕ) → b ≡ a + n → sets (sets l a (tab n f)) b (tab m (λ i. f (n + i))) ≡ sets l a (tab (n + m) f)
 two_runs l a b n m f e = rw e (sets_run m n l a f)

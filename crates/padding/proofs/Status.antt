@@ -13,34 +13,8 @@ use Rattle.definition.specs.Padding.{has_left, has_right, row_at, after, padded}
 use Rattle.definition.specs.Refusals.{beside, bad_sampling}
 use Rattle.laws.proofs.Passes.{both, inside, first-clear, not_both}
 use Rattle.laws.proofs.Lists.{tab_cong}
-use Rattle.laws.proofs.Ints.{never}
 use Rattle.definition.specs.Leaves.{target_inside, backup_status, lpf_status, luma_status, padded_row, lower_at}
-use Rattle.padding.specs.Steps.{RowFits, InsideLuma}
-
-implied : (b c : Bool) → (not b || c) ≡ true → b ≡ true → c ≡ true
-implied true c e h = e
-implied false c e h = absurd (never h)
-
-module _ (dst o src src_o left left_o w e edges : ℕ) where
-  abbrev row_test : Bool
-  row_test = leb (src_o + w + beside (has_right edges) e) src
-
-  pub given_inside : backup_status dst o src src_o left left_o w e edges ≡ 0 → RowFits dst o src src_o left left_o w e edges
-  unfolding backup_status
-  given_inside z =
-      let p = both (target_inside dst o w e && row_test) (not (has_left edges) || leb e left_o && leb left_o left) (inside _ z) in
-      let q = both (target_inside dst o w e) row_test p.0 in
-      let t = both (leb 1 w && leb e o) (leb (o + w + e) dst) q.0 in
-      let u = both (leb 1 w) (leb e o) t.0 in
-      record {
-        some = leb-true 1 w u.0;
-        front = leb-true e o u.1;
-        room = leb-true (o + w + e) dst t.1;
-        row = leb-true (src_o + w + beside (has_right edges) e) src q.1;
-        before = λ h.
-            let b = both (leb e left_o) (leb left_o left) (implied (has_left edges) (leb e left_o && leb left_o left) p.1 h) in
-            (leb-true e left_o b.0, leb-true left_o left b.1);
-      }
+use Rattle.padding.specs.Steps.{InsideLuma}
 
 -- a row whose left samples stand before it: its list of left samples is the row's own
 left_test : (L : Bool) (e src_o : ℕ) → leb (beside L e) src_o ≡ (not L || leb e src_o && true)

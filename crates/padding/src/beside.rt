@@ -1,40 +1,57 @@
-// What the paddings share: whether there is anything beside a row, and bytes that are copied.
-ghost use Rattle.std.specs.Prelude.{◌≡◌, ◌+◌, ◌≤◌, length, get_or};
+// What the paddings share: on which sides of a row samples are lent, and bytes that are put at a place.
+ghost use Rattle.std.specs.Prelude.{◌≡◌, ◌+◌, ◌≤◌, length};
 ghost use Rattle.std.proofs.lemmas.List.Edits.{sets};
 ghost use Rattle.definition.specs.Rows.{tab};
 ghost use Rattle.definition.specs.Padding.{has_left, has_right};
 ghost use Rattle.definition.specs.Refusals.{beside};
 
-// n bytes of src, from `from` on, to dst at `at`.
-pub fn copy_into(dst: &mut [u8], at: usize, src: &[u8], from: usize, n: usize)
-    requires { (at + n ≤ length dst.old) × (from + n ≤ length src.now) }
-    ensures { dst.new ≡ sets dst.old at (tab n (λ j. get_or src.now (from + j) 0)) }
-{
-    let mut j = 0;
-    while j < n {
-        dst[at + j] = src[from + j];
-        j += 1;
+use bounds::is_set;
+
+// The sides of a row on which samples are lent.
+#[derive(Clone, Copy)]
+pub struct Sides {
+    pub left: bool,
+    pub right: bool,
+}
+
+impl Sides {
+    pub fn of(edges: usize) -> Sides
+        ensures { (result.left ≡ has_left edges) × (result.right ≡ has_right edges) }
+    {
+        Sides {
+            left: is_set(edges, 0),
+            right: is_set(edges, 1),
+        }
+    }
+
+    // Of e samples before a row, those that are lent.
+    pub fn before(self, e: usize) -> usize
+        ensures { result ≡ beside self.left e }
+    {
+        if self.left { e } else { 0 }
+    }
+
+    pub fn behind(self, e: usize) -> usize
+        ensures { result ≡ beside self.right e }
+    {
+        if self.right { e } else { 0 }
     }
 }
 
-pub fn has_left(edges: usize) -> bool
-    ensures { result ≡ has_left edges }
+// The bytes of src to dst at `at`.
+pub fn copy_into(dst: &mut [u8], at: usize, src: &[u8])
+    requires { at + length src.now ≤ length dst.old }
+    ensures { dst.new ≡ sets dst.old at src.now }
 {
-    edges % 2 == 1
+    dst[at..at + src.len()].copy_from_slice(src);
 }
 
-pub fn has_right(edges: usize) -> bool
-    ensures { result ≡ has_right edges }
+// n times v to dst at `at`. The library's `fill`, which stores the last byte by itself, takes a fifth of a row's time more.
+pub fn fill_into(dst: &mut [u8], at: usize, v: u8, n: usize)
+    requires { at + n ≤ length dst.old }
+    ensures { dst.new ≡ sets dst.old at (tab n (λ _. v)) }
 {
-    edges / 2 % 2 == 1
-}
-
-// e where a bit of the edges is set.
-pub fn beside_of(bit: bool, e: usize) -> usize
-    ensures { result ≡ beside bit e }
-{
-    if bit {
-        return e;
+    for j in 0..n {
+        dst[at + j] = v;
     }
-    0
 }

@@ -3,6 +3,7 @@
 #![tactic(auto)]
 
 ghost use Rattle.std.specs.Prelude.{◌≡◌, length};
+ghost use Rattle.definition.specs.Answers.{status_from};
 ghost use Rattle.definition.specs.Leaves.{backup_status, backup_row, lpf_status, lpf_row, luma_status, backup_luma_row, source};
 
 mod backup_row;
@@ -10,8 +11,10 @@ mod backup_row_luma;
 mod beside;
 
 use backup_row::{backup_into, backup_status};
-use backup_row_luma::{luma_row_into, luma_status, source_len};
+use backup_row_luma::{Sampling, source_len};
+use definition::Refusal;
 
+// The parameters of these three are the Rust's, and those of the C functions.
 // A row of the unit: its left samples come from the list of them, those that end at left_off.
 pub fn backup_row_8bpc(
     dst: &mut [u8],
@@ -23,11 +26,11 @@ pub fn backup_row_8bpc(
     w: usize,
     edge_len: usize,
     edges: usize,
-) -> u8
-    ensures value { result ≡ backup_status (length dst.old) o (length src.now) src_o (length left.now) left_off w edge_len edges }
+) -> Result<(), Refusal>
+    ensures value { status_from result ≡ backup_status (length dst.old) o (length src.now) src_o (length left.now) left_off w edge_len edges }
     ensures dst_after { dst.new ≡ backup_row dst.old o src.now src_o left.now left_off w edge_len edges }
 {
-    let status = backup_status(
+    backup_status(
         dst.len(),
         o,
         src.len(),
@@ -37,12 +40,9 @@ pub fn backup_row_8bpc(
         w,
         edge_len,
         edges,
-    );
-    if status != 0 {
-        return status;
-    }
+    )?;
     backup_into(dst, o, src, src_o, left, left_off, w, edge_len, edges);
-    0
+    Ok(())
 }
 
 // A saved row, or a row of the plane outside the unit: its left samples stand before it.
@@ -54,14 +54,15 @@ pub fn backup_row_lpf_8bpc(
     w: usize,
     edge_len: usize,
     edges: usize,
-) -> u8
-    ensures value { result ≡ lpf_status (length dst.old) o (length src.now) src_o w edge_len edges }
+) -> Result<(), Refusal>
+    ensures value { status_from result ≡ lpf_status (length dst.old) o (length src.now) src_o w edge_len edges }
     ensures dst_after { dst.new ≡ lpf_row dst.old o src.now src_o w edge_len edges }
 {
     backup_row_8bpc(dst, o, src, src_o, src, src_o, w, edge_len, edges)
 }
 
 // A luma row of a chroma unit, w luma samples wide, from the luma plane or from a saved border.
+#[tactic(auto, unfolding(definition::specs::Leaves::luma_status))]
 pub fn backup_row_luma_8bpc<'a>(
     dst: &mut [u8],
     o: usize,
@@ -75,28 +76,15 @@ pub fn backup_row_luma_8bpc<'a>(
     ss_hor: usize,
     ss_ver: usize,
     cfl_ds_flt: usize,
-) -> u8
-    ensures value { result ≡ luma_status (length dst.old) o (length (source from_saved plane.now saved.now)) src_o src_stride w edges ss_hor ss_ver cfl_ds_flt }
+) -> Result<(), Refusal>
+    ensures value { status_from result ≡ luma_status (length dst.old) o (length (source from_saved plane.now saved.now)) src_o src_stride w edges ss_hor ss_ver cfl_ds_flt }
     ensures dst_after { dst.new ≡ backup_luma_row dst.old o (source from_saved plane.now saved.now) src_o src_stride w edges ss_hor ss_ver cfl_ds_flt }
 {
+    let sampling = Sampling::of(ss_hor, ss_ver, cfl_ds_flt)?;
     let len = source_len(plane, saved, from_saved);
-    let status = luma_status(
-        dst.len(),
-        o,
-        len,
-        src_o,
-        src_stride,
-        w,
-        edges,
-        ss_hor,
-        ss_ver,
-        cfl_ds_flt,
+    sampling.luma_status(dst.len(), o, len, src_o, src_stride, w, edges)?;
+    sampling.luma_row_into(
+        dst, o, plane, saved, from_saved, src_o, src_stride, w, edges,
     );
-    if status != 0 {
-        return status;
-    }
-    luma_row_into(
-        dst, o, plane, saved, from_saved, src_o, src_stride, w, edges, ss_hor, ss_ver, cfl_ds_flt,
-    );
-    0
+    Ok(())
 }

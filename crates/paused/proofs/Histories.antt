@@ -20,7 +20,7 @@ use Rattle.units.specs.declared.Advanced.{Advanced}
 use Rattle.units.specs.Openings.{Begun, open_state}
 use Rattle.units.specs.Histories.{unit}
 use Rattle.units.proofs.LumaHistory.{luma-history}
-use Rattle.paused.specs.declared.Paused.{Paused}
+use Rattle.std.specs.Prelude.{Ok}
 use Rattle.paused.specs.Paused.{held_sample, PausedUnit}
 use Rattle.definition.specs.Calls.{Call, call_of}
 use Rattle.units.specs.Advances.{answer, Answered}
@@ -77,11 +77,11 @@ module _ (n : Given) (l : Lent) (p : List ℕ) (f : open_status Luma n l p ≡ 0
       ]
 
   -- what the code's calls say, one after another
-  pub paused_whole : (c v : ℕ) (o : Opened) (a b : Advanced) (p₁ p₂ q : List ℕ) (r : Paused) → Begun Luma o n l p →
+  pub paused_whole : (c v : ℕ) (o : Opened) (a b : Advanced) (p₁ p₂ q : List ℕ) → Begun Luma o n l p →
       Answered a p₁ (answer (call_of Luma c l) o.state p) → p₂ ≡ cond (eqb c 0) p₁ (set p₁ n.off v) →
-      Answered b q (answer (call_of Luma n.h l) a.state p₂) → r.status ≡ b.status → r.first ≡ a.pieces → r.rest ≡ b.pieces → PausedUnit r n l c v p q
+      Answered b q (answer (call_of Luma n.h l) a.state p₂) → PausedUnit (Ok (record { first = a.pieces; rest = b.pieces })) n l c v p q
   unfolding answer
-  paused_whole c v o a b p₁ p₂ q r begun first over rest rs rf rr =
+  paused_whole c v o a b p₁ p₂ q begun first over rest =
       let s : o.state ≡ open_state Luma n l p = begun.state ∙ rw f in
       let early-is : Answered a p₁ (answer (call_of Luma c l) (open_state Luma n l p) p) = rw s at first in
       let state-is : a.state ≡ (run (unit Luma n l p) (between c v)).state = early-is.state ∙ sym (state-between c v) in
@@ -99,9 +99,9 @@ module _ (n : Given) (l : Lent) (p : List ℕ) (f : open_status Luma n l p ≡ 0
       let all : min n.h (sum (unit Luma n l p) (between c v) + n.h) ≡ n.h = at_most n.h _ in
       let left : min n.h (sum (unit Luma n l p) (between c v) + n.h) - min n.h (sum (unit Luma n l p) (between c v)) ≡ n.h - min n.h c = (λ i. all i - done i) in
       record {
-        status = rs ∙ (late_is.status ∙ (before.status tt n.h refl ∙ sym f));
-        first = λ z. rf ∙ (early-is.pieces ∙ (start.pieces tt c refl ∙ (λ i. pieces_of l.skip (n.w / side) (none_yet i) (some i))));
-        rest = λ z. rr ∙ (late_is.pieces ∙ (before.pieces tt n.h refl ∙ (λ i. pieces_of l.skip (n.w / side) (done i) (left i))));
+        status = sym f;
+        first = λ z. (early-is.pieces ∙ (start.pieces tt c refl ∙ (λ i. pieces_of l.skip (n.w / side) (none_yet i) (some i))));
+        rest = λ z. (late_is.pieces ∙ (before.pieces tt n.h refl ∙ (λ i. pieces_of l.skip (n.w / side) (done i) (left i))));
         plane = λ z.
             rw late_is.plane
             (record {
@@ -111,6 +111,27 @@ module _ (n : Given) (l : Lent) (p : List ℕ) (f : open_status Luma n l p ≡ 0
             });
         none = λ z. absurd (z f);
       }
+
+  -- neither advance is refused
+  pub first_served : (c : ℕ) (o : Opened) (a : Advanced) (p₁ : List ℕ) → Begun Luma o n l p → Answered a p₁ (answer (call_of Luma c l) o.state p) → a.status ≡ 0
+  unfolding answer
+  first_served c o a p₁ begun first =
+      let s : o.state ≡ open_state Luma n l p = begun.state ∙ rw f in
+      (rw s at first).status ∙ (holds opened tt).status tt c refl
+
+  pub rest_served : (c v : ℕ) (o : Opened) (a b : Advanced) (p₁ p₂ q : List ℕ) → Begun Luma o n l p →
+      Answered a p₁ (answer (call_of Luma c l) o.state p) → p₂ ≡ cond (eqb c 0) p₁ (set p₁ n.off v) →
+      Answered b q (answer (call_of Luma n.h l) a.state p₂) → b.status ≡ 0
+  unfolding answer
+  rest_served c v o a b p₁ p₂ q begun first over rest =
+      let s : o.state ≡ open_state Luma n l p = begun.state ∙ rw f in
+      let early-is : Answered a p₁ (answer (call_of Luma c l) (open_state Luma n l p) p) = rw s at first in
+      let state-is : a.state ≡ (run (unit Luma n l p) (between c v)).state = early-is.state ∙ sym (state-between c v) in
+      let plane-is : p₂ ≡ (run (unit Luma n l p) (between c v)).plane =
+      over ∙ (ap (λ (e : List ℕ). cond (eqb c 0) e (set e n.off v)) early-is.plane ∙ sym (plane-between c v)) in
+      let late_is : Answered b q (answer (call_of Luma n.h l) (run (unit Luma n l p) (between c v)).state (run (unit Luma n l p) (between c v)).plane) =
+      rw (state-is, plane-is) at rest in
+      late_is.status ∙ (holds (between c v) (valid c v)).status tt n.h refl
 
   -- the plane that the first advance leaves has the room that it had
   pub early-size : (c : ℕ) (o : Opened) (a : Advanced) (p₁ : List ℕ) → Begun Luma o n l p → Answered a p₁ (answer (call_of Luma c l) o.state p) → n.off < length p₁

@@ -1,7 +1,9 @@
 -- A luma unit that is broken off after some rows, has the first sample of its rectangle written over, and is then restored to its end.
-use Rattle.std.specs.Prelude.{◌≡◌, cond, ◌&&◌, not, ◌≢◌, List, ℕ, ◌+◌, ◌*◌, ◌-◌, ◌/◌, ◌<◌, min, eqb, length, get_or}
+use Rattle.std.specs.Prelude.{◌≡◌, cond, ◌&&◌, not, ◌≢◌, List, ℕ, ◌+◌, ◌*◌, ◌-◌, ◌/◌, ◌<◌, min, eqb, length, get_or, Result, IfOk}
 use Rattle.definition.specs.declared.Operation.TheVariants.{Luma}
 use Rattle.definition.specs.declared.Given.{Given}
+use Rattle.definition.specs.declared.Refusal.{Refusal}
+use Rattle.definition.specs.Answers.{status_from}
 use Rattle.definition.specs.Blocks.{side, pieces_of}
 use Rattle.definition.specs.Units.{Lent, final_sample}
 use Rattle.definition.specs.Refusals.{open_status}
@@ -16,9 +18,9 @@ pub record Overwritten (n : Given) (l : Lent) (count v : ℕ) (p q : List ℕ) :
   pub here : (y x : ℕ) → y < n.h → x < n.w → get_or q (n.off + y * n.stride + x) 0 ≡ held_sample n l p count v y x
   pub other : (i : ℕ) → ((y x : ℕ) → y < n.h → x < n.w → i ≢ n.off + y * n.stride + x) → get_or q i 0 ≡ get_or p i 0
 
-pub record PausedUnit (r : Paused) (n : Given) (l : Lent) (count v : ℕ) (p q : List ℕ) : Type 0 where
-  pub status : r.status ≡ open_status Luma n l p
-  pub first : open_status Luma n l p ≡ 0 → r.first ≡ pieces_of l.skip (n.w / side) 0 (min n.h count)
-  pub rest : open_status Luma n l p ≡ 0 → r.rest ≡ pieces_of l.skip (n.w / side) (min n.h count) (n.h - min n.h count)
+pub record PausedUnit (r : Result Paused Refusal) (n : Given) (l : Lent) (count v : ℕ) (p q : List ℕ) : Type 0 where
+  pub status : status_from r ≡ open_status Luma n l p
+  pub first : open_status Luma n l p ≡ 0 → IfOk r (λ s. s.first ≡ pieces_of l.skip (n.w / side) 0 (min n.h count))
+  pub rest : open_status Luma n l p ≡ 0 → IfOk r (λ s. s.rest ≡ pieces_of l.skip (n.w / side) (min n.h count) (n.h - min n.h count))
   pub plane : open_status Luma n l p ≡ 0 → Overwritten n l count v p q
-  pub none : open_status Luma n l p ≢ 0 → (r.first ≡ 0) × (r.rest ≡ 0) × (q ≡ p)
+  pub none : open_status Luma n l p ≢ 0 → q ≡ p

@@ -3,13 +3,15 @@
 #![tactic(auto)]
 
 ghost use Rattle.std.specs.Prelude.{◌≡◌, cond, ◌<◌, eqb, length, set};
-ghost use Rattle.definition.specs.Calls.{luma_lent, given_y};
+ghost use Rattle.definition.specs.declared.Operation.TheVariants.{Luma};
+ghost use Rattle.definition.specs.Calls.{lists_lent};
 ghost use Rattle.paused.specs.Paused.{PausedUnit};
 
+use definition::{Given, Lists, Operation, Refusal};
+
+// The pieces of the first advance, and of the one that restores the rest.
 #[derive(Clone, Copy)]
 pub struct Paused {
-    pub status: u8,
-    // The pieces of the first advance, and of the one that restores the rest.
     pub first: usize,
     pub rest: usize,
 }
@@ -25,55 +27,19 @@ fn write_over(p: &mut [u8], at: usize, v: u8, count: usize)
     p[at] = v;
 }
 
+// A unit that was opened is not refused again.
 pub fn restore_paused(
+    g: Given,
     p: &mut [u8],
-    p_off: usize,
-    stride: usize,
-    left: &[u8],
-    lpf: &[u8],
-    lpf_off: usize,
-    lpf_bottom: &[u8],
-    lpf_bottom_off: usize,
-    w: usize,
-    h: usize,
-    filter: &[i8],
-    edges: usize,
-    skip: &[u16],
+    lent: &Lists,
     count: usize,
     v: u8,
-) -> Paused
-    ensures { PausedUnit result (given_y w h edges stride p_off lpf_off lpf_bottom_off) (luma_lent left.now lpf.now lpf_bottom.now filter.now skip.now) count v p.old p.new }
+) -> Result<Paused, Refusal>
+    ensures { PausedUnit result g (lists_lent Luma lent.now) count v p.old p.new }
 {
-    let opened = units::open_y(
-        p,
-        p_off,
-        stride,
-        left,
-        lpf,
-        lpf_off,
-        lpf_bottom,
-        lpf_bottom_off,
-        w,
-        h,
-        filter,
-        edges,
-        skip,
-    );
-    if opened.status != 0 {
-        return Paused {
-            status: opened.status,
-            first: 0,
-            rest: 0,
-        };
-    }
-    let state = opened.state;
-    let first = state.advance_y(count, p, left, lpf, lpf_bottom, filter, skip);
-    write_over(p, p_off, v, count);
-    let next = first.state;
-    let rest = next.advance_y(h, p, left, lpf, lpf_bottom, filter, skip);
-    Paused {
-        status: rest.status,
-        first: first.pieces,
-        rest: rest.pieces,
-    }
+    let mut state = units::open(Operation::Luma, g, &*p, &*lent)?;
+    let first = state.advance_by(Operation::Luma, count, p, lent).unwrap();
+    write_over(p, g.off, v, count);
+    let rest = state.advance_by(Operation::Luma, g.h, p, lent).unwrap();
+    Ok(Paused { first, rest })
 }

@@ -3,14 +3,15 @@
 #![tactic(auto)]
 
 ghost use Rattle.plane.specs.Plane.{PlaneRestored};
+ghost use Rattle.whole.specs.Whole.{restored_of};
 
-use whole::Restored;
+use definition::Refusal;
 
 mod cut;
 mod saved;
 mod walk;
 
-// Does the first `count` units, or all; `scratch` is eight rows of the plane's width, of which nothing is promised but the length.
+// Does the first `count` units, or all, and answers their pieces; `scratch` is eight rows of the plane's width, of which nothing is promised but the length.
 pub fn restore_plane(
     p: &mut [u8],
     w: usize,
@@ -20,21 +21,10 @@ pub fn restore_plane(
     filter: &[i8],
     skip: &[u16],
     scratch: &mut [u8],
-) -> Restored
-    ensures { PlaneRestored result w h unit count filter.now skip.now scratch.old scratch.new p.old p.new }
+) -> Result<usize, Refusal>
+    ensures { PlaneRestored (restored_of result) w h unit count filter.now skip.now scratch.old scratch.new p.old p.new }
 {
-    let status = refusals::plane_status(
-        w,
-        h,
-        unit,
-        p.len(),
-        skip.len(),
-        filter.len(),
-        scratch.len(),
-    );
-    if status != 0 {
-        return Restored { status, pieces: 0 };
-    }
+    refusals::plane_status(w, h, unit, p.len(), skip.len(), filter.len(), scratch.len())?;
     let pieces = walk::restore_units(p, w, h, unit, count, filter, skip, scratch);
-    Restored { status: 0, pieces }
+    Ok(pieces)
 }

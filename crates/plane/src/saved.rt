@@ -14,13 +14,15 @@ const LEFT_ROW: usize = 6;
 
 pub const LEFT_BYTES: usize = LEFT_ROW * UNIT_SIZE_LIMIT;
 
-// At the first unit of a row of units, the four rows above row y go to scratch at `to`: rows stand without gaps, so they go as one row without a border.
+// By a flag, so that the walk has one path: at the first unit of a row of units, the four rows above row y go to scratch at `to`: rows stand without gaps.
 pub fn save_rows(scratch: &mut [u8], to: usize, p: &[u8], w: usize, y: usize, first: bool)
     requires { (1 ≤ w) × (w ≤ plane_side_limit) × (4 ≤ y) × (y ≤ plane_side_limit) × (y * w ≤ length p.now) × (to + 4 * w ≤ length scratch.old) }
     ensures { scratch.new ≡ cond first (sets scratch.old to (tab (4 * w) (λ j. get_or p.now ((y - 4) * w + j) 0))) scratch.old }
 {
     if first {
-        padding::backup_row_lpf_8bpc(scratch, to, p, (y - BORDER) * w, BORDER * w, 0, 0);
+        let from = (y - BORDER) * w;
+        let n = BORDER * w;
+        scratch[to..to + n].copy_from_slice(&p[from..from + n]);
     }
 }
 
@@ -40,15 +42,10 @@ pub fn columns_before(
     if x < BORDER {
         return r;
     }
-    let mut j = 0;
-    while j < n {
+    for j in 0..n {
         let from = (y + j) * w + (x - BORDER);
         let at = LEFT_ROW * j + (LEFT_ROW - BORDER);
-        r[at] = p[from];
-        r[at + 1] = p[from + 1];
-        r[at + 2] = p[from + 2];
-        r[at + 3] = p[from + 3];
-        j += 1;
+        r[at..at + BORDER].copy_from_slice(&p[from..from + BORDER]);
     }
     r
 }

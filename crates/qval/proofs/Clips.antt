@@ -1,35 +1,27 @@
 -- Clipping and picking, for numbers that are not negative.
 use mathlib.Core.Path.{◌≡◌, refl, ap, ◌∙◌}
 use mathlib.Core.Bool.{cond}
-use Prim.Native.Nat.{ℕ, zero, suc, ◌+◌, ◌-◌, ◌/◌, ◌≤◌, min}
+use Prim.Native.Nat.{ℕ, zero, suc, ◌+◌, ◌/◌, ◌≤◌, min}
 use native.Mathlib.Decide.{dec_le}
 use native.Mathlib.Nat.{lt_of_le_of_lt}
 use native.Mathlib.Omega.{arith}
 use lib.Dec.{ltb}
-use lib.IntN.{ℤ, pos, negsuc, ◌+ℤ◌, ◌-ℤ◌}
+use lib.IntN.{ℤ, pos, negsuc, ◌+ℤ◌}
 use lib.Signed.{shr_z, mag_shr}
 use mir.Syntax.{w32}
 use mir.Val.{SFits, to_z, of_z}
 use mir.Facts.{to_z-of_z}
 use borrow.Author.Tests.{lt-ltb, le-ltb}
-use Rattle.definition.specs.Numbers.{max_z, min_z, clip_z, to_i32, raised}
+use Rattle.definition.specs.Numbers.{max_z, min_z, to_i32, raised}
 use Rattle.definition.specs.ClassIndex.{bin}
-use Rattle.laws.proofs.Ints.{sub_cases}
 
--- the smaller of two numbers, by a test
-pub pick : (a b : ℕ) → cond (ltb b a) (pos b) (pos a) ≡ pos (min a b)
-pick a b =
+-- of two numbers the one of the smaller, by a test
+pick : (f : ℕ → ℤ) (a b : ℕ) → cond (ltb b a) (f b) (f a) ≡ f (min a b)
+pick f a b =
     elim (dec_le a b) [
-      | yes h ↦ rw (le-ltb b a h) (ap pos (omega arith))
-      | no h ↦ rw (lt-ltb b a (omega arith)) (ap pos (omega arith))
+      | yes h ↦ rw (le-ltb b a h) (ap f (omega arith))
+      | no h ↦ rw (lt-ltb b a (omega arith)) (ap f (omega arith))
     ]
-
-pub clip_from_zero : (b : ℕ) (v : ℤ) → clip_z (pos 0) (pos b) v ≡ pos (min (raised v) b)
-clip_from_zero b (pos n) = rw (le-ltb n 0 (omega arith)) (pick n b)
-clip_from_zero b (negsuc n) = ap pos (omega arith)
-
-pub less_one : (n : ℕ) → raised (pos n -ℤ pos 1) ≡ n - 1
-less_one n = sub_cases n 1 (λ (z : ℤ). raised z ≡ n - 1) (λ h. omega arith) (λ h. refl)
 
 max_zero : (v : ℤ) → max_z (pos 0) v ≡ pos (raised v)
 max_zero (pos zero) = refl
@@ -39,7 +31,7 @@ max_zero (negsuc n) = refl
 -- what the code computes before its last shift, from exact steps
 pub bin-steps : (v : ℤ) →
     min_z (shr_z (to_i32 (max_z (pos 0) v +ℤ pos 8192)) 16384) (pos 255) ≡ pos (min (min (raised v + 8192) 2147483647 / 16384) 255)
-bin-steps v = rw (max_zero v, pick (raised v + 8192) 2147483647) (pick (min (raised v + 8192) 2147483647 / 16384) 255)
+bin-steps v = rw (max_zero v, pick pos (raised v + 8192) 2147483647) (pick pos (min (raised v + 8192) 2147483647 / 16384) 255)
 
 -- a number shifted to the right, read back from its bits
 shr_is : (z : ℤ) (m : ℕ) → SFits w32 z → to_z w32 (of_z w32 (shr_z (to_z w32 (of_z w32 z)) m)) ≡ shr_z z m
@@ -63,6 +55,3 @@ binned v m a n fv fm fa fn em ea en =
 pub bin_small : (v : ℤ) → bin v ≤ 7
 unfolding bin
 bin_small v = omega arith
-
-pub bin_of : (r : ℕ) (v : ℤ) → r ≡ bin v → r ≤ 7
-bin_of r v e = rw e (bin_small v)

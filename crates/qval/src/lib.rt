@@ -1,17 +1,36 @@
-// looprestoration.rs: the quantizer's terms of a class index and the bin of a value, at depth 8. A term that is refused answers its status and 0.
+// looprestoration.rs: the quantizer's terms of a class index and the bin of a value, at depth 8.
 #![tactic(auto)]
 
-ghost use Rattle.std.specs.Prelude.{◌≡◌, ◌*◌, ◌<◌, ◌≤◌, pos, nat_abs, ◌+ℤ◌, ◌*ℤ◌};
+ghost use Rattle.std.specs.Prelude.{◌≡◌, ◌*◌, ◌<◌, ◌≤◌, pos, nat_abs, ◌+ℤ◌, ◌*ℤ◌, IfOk};
+ghost use Rattle.definition.specs.Answers.{status_from};
 ghost use Rattle.definition.specs.ClassIndex.{prod, by8192, weight, term, bin};
-ghost use Rattle.definition.specs.Leaves.{or_zero_z, term_status};
+ghost use Rattle.definition.specs.Leaves.{term_status};
+ghost use Rattle.qval.specs.Answers.{qval_of};
 
+use definition::Refusal;
+use intops::{iclip64to32, imax, imin, saturating_add};
 use tables::{MODE_OFFSETS, MODE_WEIGHTS};
 
+// What a program in C is answered: the status, and the value or 0.
 #[repr(C)]
 #[derive(Clone, Copy)]
 pub struct Qval {
     pub status: u8,
     pub value: i32,
+}
+
+impl From<Result<i32, Refusal>> for Qval {
+    ghost from_gives = { λ r q. q ≡ qval_of r };
+
+    fn from(term: Result<i32, Refusal>) -> Qval {
+        match term {
+            Ok(value) => Qval { status: 0, value },
+            Err(refusal) => Qval {
+                status: u8::from(refusal),
+                value: 0,
+            },
+        }
+    }
 }
 
 // (t q + 128) >> 8
@@ -37,32 +56,29 @@ fn by_8192(v: i64) -> i64
     ensures { (result ≡ by8192 v) × (nat_abs result ≤ 36028797018968064) }
 {
     if v < 0 {
-        return 0 - ((0 - v + 4096) >> 13);
+        -((4096 - v) >> 13)
+    } else {
+        (v + 4096) >> 13
     }
-    (v + 4096) >> 13
 }
 
 // Term i for a quantizer and the skip sum times 7.
-pub fn get_qval_given_tskip(qstep: i32, tskip: u8, i: usize) -> Qval
-    ensures { (result.status ≡ term_status i) × (result.value ≡ or_zero_z (term_status i) (term qstep tskip i)) }
+pub fn get_qval_given_tskip(qstep: i32, tskip: u8, i: usize) -> Result<i32, Refusal>
+    ensures status_value { status_from result ≡ term_status i }
+    ensures term_value { IfOk result (λ z. z ≡ term qstep tskip i) }
 {
     if 3 < i {
-        return Qval {
-            status: 5,
-            value: 0,
-        };
+        return Err(Refusal::Outside);
     }
     let v = by_8192(weighted_sum(i, qstep, tskip, tskip_product(qstep, tskip)));
     let offset = MODE_OFFSETS[i];
-    let value = intops::iclip64to32(255 * (offset as i64 + v), -2147483648, 2147483647);
-    Qval { status: 0, value }
+    Ok(iclip64to32(255 * (offset as i64 + v), i32::MIN, i32::MAX))
 }
 
 // The bin of a value, 0 to 7.
 pub fn get_qval_lut_bin(qval: i32) -> u32
     ensures { result ≡ bin qval }
 {
-    let raised = intops::imax(0, qval);
-    let q = intops::saturating_add(raised, 8192) >> 14;
-    (intops::imin(q, 255) >> 5) as u32
+    let q = saturating_add(imax(0, qval), 8192) >> 14;
+    (imin(q, 255) >> 5) as u32
 }

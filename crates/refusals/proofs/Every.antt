@@ -1,75 +1,64 @@
--- Tests over a whole list (`every`), by its places: a loop stops at the first that fails.
-use mathlib.Core.Path.{◌≡◌, refl, sym, ◌∙◌}
-use mathlib.Core.Bool.{Bool, true, false, and-false}
+-- Tests over a whole list (`every`): by its places, by its largest entry, and where one of them fails.
+use mathlib.Core.Path.{◌≡◌, refl, sym, ap, ◌∙◌}
+use mathlib.Core.Bool.{Bool, true, false, not, ◌&&◌, ◌||◌, and-true}
 use mathlib.Core.List.{List, [], ◌∷◌}
-use Prim.Native.Nat.{ℕ, zero, suc, ◌+◌, ◌≤◌, ◌<◌, max, suc-le-suc}
+use Prim.Native.Nat.{ℕ, zero, suc, ◌≤◌, ◌<◌, max}
 use native.Mathlib.Nat.{not-suc-le-zero, le_of_suc-le-suc}
 use native.Mathlib.Omega.{arith}
-use native.Mathlib.Decide.{dec_lt, dec_le}
-use native.Mathlib.Numerals.{add-one}
-use lib.Dec.{ltb, eqb}
+use native.Mathlib.Decide.{dec_lt}
+use lib.Dec.{ltb, leb}
 use lib.ListN.{length, get_or}
-use borrow.Author.Tests.{lt-ltb, le-ltb, ne_eqb}
-use Rattle.definition.specs.Refusals.{every}
+use borrow.Author.Tests.{lt-ltb, le-ltb, le-leb, lt-leb}
+use Rattle.std.proofs.Math.Bool.{and_assoc}
+use Rattle.std.specs.List.{fold, list_any}
+use Rattle.definition.specs.Refusals.{every, first_pass}
 use Rattle.laws.proofs.Passes.{both}
-use Rattle.refusals.specs.Table.{highest}
 
-module _ (test : ℕ → Bool) where
-  pub every_true : (xs : List ℕ) → ((k : ℕ) → k < length xs → test (get_or xs k 0) ≡ true) → every test xs ≡ true
-  every_true [] h = refl
-  every_true (x ∷ xs) h = rw (h 0 (omega arith)) (every_true xs (λ k l. h (suc k) (suc-le-suc l)))
+pub every-at : (test : ℕ → Bool) (xs : List ℕ) (k : ℕ) → k < length xs → every test xs ≡ true → test (get_or xs k 0) ≡ true
+every-at test [] k l e = absurd (not-suc-le-zero l)
+every-at test (x ∷ xs) zero l e = (both (test x) (every test xs) e).0
+every-at test (x ∷ xs) (suc k) l e = every-at test xs k (le_of_suc-le-suc l) (both (test x) (every test xs) e).1
 
-  pub every_false : (xs : List ℕ) (k : ℕ) → k < length xs → test (get_or xs k 0) ≡ false → every test xs ≡ false
-  every_false [] k l e = absurd (not-suc-le-zero l)
-  every_false (x ∷ xs) zero l e = rw e
-  every_false (x ∷ xs) (suc k) l e = rw (every_false xs k (le_of_suc-le-suc l) e) (and-false (test x))
-
-  pub every-at : (xs : List ℕ) (k : ℕ) → k < length xs → every test xs ≡ true → test (get_or xs k 0) ≡ true
-  every-at [] k l e = absurd (not-suc-le-zero l)
-  every-at (x ∷ xs) zero l e = (both (test x) (every test xs) e).0
-  every-at (x ∷ xs) (suc k) l e = every-at xs k (le_of_suc-le-suc l) (both (test x) (every test xs) e).1
-
--- THE LARGEST: one entry more; all are below n where it is; and one is not where it is not
-pub highest-none : (xs : List ℕ) → highest xs 0 ≡ 0
-unfolding highest
-highest-none xs = refl
-
-pub highest_more : (xs : List ℕ) (k : ℕ) → max (highest xs k) (get_or xs k 0) ≡ highest xs (k + 1)
-unfolding highest
-highest_more xs k = rw (add-one k)
-
-highest_over : (xs : List ℕ) (k j : ℕ) → j < k → get_or xs j 0 ≤ highest xs k
-unfolding highest
-highest_over xs zero j h = absurd (not-suc-le-zero h)
-highest_over xs (suc k) j h =
-    elim (dec_lt j k) [
-      | yes l ↦ omega (arith, highest_over xs k j l)
-      | no ne ↦ let e : j ≡ k = omega arith in rw e (omega arith)
+-- THE LARGEST is below n where all are
+larger-below : (a b n : ℕ) → ltb (max a b) n ≡ (ltb a n && ltb b n)
+larger-below a b n =
+    elim (dec_lt a n) [
+      | no h ↦ rw (le-ltb a n (omega arith)) (le-ltb (max a b) n (omega arith))
+      | yes h ↦
+          rw (lt-ltb a n h)
+          (elim (dec_lt b n) [
+            | yes l ↦ lt-ltb (max a b) n (omega arith) ∙ sym (lt-ltb b n l)
+            | no l ↦ le-ltb (max a b) n (omega arith) ∙ sym (le-ltb b n (omega arith))
+          ])
     ]
 
-highest-at : (xs : List ℕ) (n k : ℕ) (G : Type 0) → 0 < n → n ≤ highest xs k → ((j : ℕ) → j < k → n ≤ get_or xs j 0 → G) → G
-unfolding highest
-highest-at xs n zero G p h found = absurd (omega arith)
-highest-at xs n (suc k) G p h found =
-    elim (dec_le n (get_or xs k 0)) [
-      | yes l ↦ found k (omega arith) l
-      | no ne ↦ highest-at xs n k G p (omega arith) (λ j l. found j (omega arith))
-    ]
+below : (xs : List ℕ) (a n : ℕ) → ltb (fold max a xs) n ≡ (ltb a n && every (λ x. ltb x n) xs)
+below [] a n = sym (and-true (ltb a n))
+below (x ∷ xs) a n = below xs (max a x) n ∙ ap (λ b. b && every (λ y. ltb y n) xs) (larger-below a x n) ∙ and_assoc (ltb a n) (ltb x n) (every (λ y. ltb y n) xs)
 
-pub below-highest : (xs : List ℕ) (n : ℕ) → 0 < n → ltb (highest xs (length xs)) n ≡ every (λ x. ltb x n) xs
-below-highest xs n p =
-    elim (dec_lt (highest xs (length xs)) n) [
-      | yes l ↦
-          lt-ltb (highest xs (length xs)) n l ∙
-          sym (every_true (λ x. ltb x n) xs (λ k h. lt-ltb (get_or xs k 0) n (omega (arith, highest_over xs (length xs) k h))))
-      | no ne ↦
-          highest-at xs n (length xs) (ltb (highest xs (length xs)) n ≡ every (λ x. ltb x n) xs) p (omega arith)
-          (λ j h l. le-ltb (highest xs (length xs)) n (omega arith) ∙ sym (every_false (λ x. ltb x n) xs j h (le-ltb (get_or xs j 0) n l)))
-    ]
+pub below-largest : (xs : List ℕ) (n : ℕ) → 0 < length xs → ltb (fold max 0 xs) n ≡ every (λ x. ltb x n) xs
+below-largest [] n h = absurd (omega arith)
+below-largest (x ∷ xs) n h = below xs (max 0 x) n ∙ ap (λ m. ltb m n && every (λ y. ltb y n) xs) (omega arith)
 
--- none is below 0
-pub none_below : (xs : List ℕ) → eqb (length xs) 0 ≡ every (λ x. ltb x 0) xs
-none_below [] = refl
-none_below (x ∷ xs) =
-    ne_eqb (length (x ∷ xs)) 0 (λ e. absurd (omega arith)) ∙
-    sym (every_false (λ y. ltb y 0) (x ∷ xs) 0 (omega arith) (le-ltb x 0 (omega arith)))
+-- A TEST OF THE FIRST n fails where one of n does
+first_pass_cons : (test : ℕ → Bool) (x : ℕ) (xs : List ℕ) (n : ℕ) → first_pass test (suc n) (x ∷ xs) ≡ (test x && first_pass test n xs)
+unfolding first_pass
+first_pass_cons test x xs zero = sym (and-true (test x))
+first_pass_cons test x xs (suc n) =
+    ap (λ b. b && test (get_or xs n 0)) (first_pass_cons test x xs n) ∙ and_assoc (test x) (first_pass test n xs) (test (get_or xs n 0))
+
+not-and : (a b : Bool) → not (a && b) ≡ (not a || not b)
+not-and true b = refl
+not-and false b = refl
+
+pub any-fails : (xs : List ℕ) (n : ℕ) → list_any (λ x. leb n x) xs ≡ not (first_pass (λ x. ltb x n) (length xs) xs)
+unfolding first_pass
+any-fails [] n = refl
+any-fails (x ∷ xs) n =
+    rw (first_pass_cons (λ y. ltb y n) x xs (length xs), not-and (ltb x n) (first_pass (λ y. ltb y n) (length xs) xs), ← any-fails xs n)
+    (elim (dec_lt x n) [
+      | yes h ↦ rw (lt-ltb x n h, lt-leb n x h) refl
+      | no h ↦
+          let k : n ≤ x = omega arith in
+          rw (le-ltb x n k, le-leb n x k) refl
+    ])

@@ -1,5 +1,5 @@
 -- What the private functions ask and leave: the table of refusals in two parts. The first four conditions bound the sizes and strides, so that the rest can be worked out in 64 bits.
-use Rattle.std.specs.Prelude.{◌≡◌, true, not, List, [], ◌∷◌, ℕ, zero, suc, ◌≤◌, max, get_or}
+use Rattle.std.specs.Prelude.{◌≡◌, true, not, List, [], ◌∷◌, ◌≤◌}
 use Rattle.definition.specs.declared.Operation.{Operation}
 use Rattle.definition.specs.declared.Given.{Given}
 use Rattle.definition.specs.declared.Sizes.{Sizes}
@@ -42,8 +42,3 @@ pub record Within (op : Operation) (g : Given) : Type 0 where
   pub tall : g.h ≤ height_limit
   pub near : g.stride ≤ stride_limit
   pub luma : chromatic op ≡ true → LumaWithin g
-
--- the largest of the first k entries of a list
-unfoldable pub highest : List ℕ → ℕ → ℕ
-highest xs zero = 0
-highest xs (suc k) = max (highest xs k) (get_or xs k 0)

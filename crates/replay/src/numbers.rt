@@ -1,98 +1,55 @@
 // The generator that both programs make their units from: numbers and lists that depend on the unit's number alone.
-ghost use Rattle.std.specs.Prelude.{◌<◌};
+ghost use Rattle.std.specs.Prelude.{◌<◌, ◌≤◌, ◌+◌, ◌^◌, ◌≤ℤ◌, ◌<ℤ◌, pos, neg_ℤ};
 
-fn spread(x: usize) -> usize {
+use definition::MAP_SIZE;
+use std::array::from_fn;
+
+fn spread(x: u64) -> u64 {
     let a = x ^ (x << 13);
     let b = a ^ (a >> 7);
     b ^ (b << 17)
 }
 
-fn mix(x: usize) -> usize {
-    let a = spread(std::num::wrapping_add_usize(x, 0x9e3779b97f4a7c15));
-    let b = spread(std::num::wrapping_add_usize(a, 0xbf58476d1ce4e5b9));
+fn mix(x: u64) -> u64 {
+    let a = spread(x.wrapping_add(0x9e3779b97f4a7c15));
+    let b = spread(a.wrapping_add(0xbf58476d1ce4e5b9));
     b ^ (b >> 31)
 }
 
-// Number i of the list `s` of unit k.
-fn draw(k: usize, s: usize, i: usize) -> usize {
-    let list = mix(std::num::wrapping_add_usize(mix(k), s));
-    mix(std::num::wrapping_add_usize(list, i))
+// Number i of the list s of unit k.
+fn draw(k: usize, s: u64, i: usize) -> u64 {
+    let list = mix(mix(k as u64).wrapping_add(s));
+    mix(list.wrapping_add(i as u64))
 }
 
 // A number of unit k.
-pub fn below(k: usize, s: usize, most: usize) -> usize
+pub fn below(k: usize, s: u64, most: u64) -> usize
     requires { 0 < most }
     ensures { result < most }
 {
-    draw(k, s, 0) % most
+    (draw(k, s, 0) % most) as usize
 }
 
-// The numbers from the middle on are the negative ones.
-fn signed8(v: usize) -> i8 {
-    let x = v % 256;
-    if x < 128 { x as i8 } else { !((x - 128) as i8) }
-}
-
-fn signed16(v: usize) -> i16 {
-    let x = v % 65536;
-    if x < 32768 {
-        x as i16
-    } else {
-        !((x - 32768) as i16)
-    }
-}
-
-fn signed32(v: usize) -> i32 {
-    let x = v % 4294967296;
-    if x < 2147483648 {
-        x as i32
-    } else {
-        !((x - 2147483648) as i32)
-    }
-}
-
-// A sample of the pool: any, an end, or close to the others, 4,096 of a kind.
-fn sample(i: usize) -> u8 {
-    let v = mix(i) % 256;
+// Byte i of the pool: any, an end, or close to the others, 4,096 of a kind.
+pub fn sample(i: usize) -> u8 {
+    let v = (mix(i as u64) % 256) as u8;
     match i / 4096 % 4 {
-        0 => v as u8,
-        1 => { if v % 2 == 0 { 0 } else { 255 } }
-        2 => (112 + v % 16) as u8,
-        _ => (100 + v % 6) as u8,
+        0 => v,
+        1 => if v % 2 == 0 { 0 } else { 255 },
+        2 => 112 + v % 16,
+        _ => 100 + v % 6,
     }
 }
 
-// Byte i of a list: 0 the pool's from k on, 1 the map's, 2 the subclasses of unit k, of which there are four.
-fn byte(list: usize, k: usize, i: usize) -> u8 {
-    match list {
-        0 => sample(std::num::wrapping_add_usize(k, i)),
-        1 => map_entry(i % 4096),
-        _ => (draw(k, 1, i) % 4) as u8,
-    }
-}
-
-// The map that the Rust is run with.
-fn map_entry(i: usize) -> u8
-    requires { i < 4096 }
+// Entry i of the map that the Rust is run with.
+pub fn map_entry(i: usize) -> u8
+    requires { i < MAP_SIZE }
 {
     ((i * 37 + i / 64) % 64) as u8
 }
 
-pub fn fill(a: &mut [u8], list: usize, k: usize) {
-    for i in 0..a.len() {
-        a[i] = byte(list, k, i);
-    }
-}
-
-pub fn pool(a: &mut [u8; 36864]) {
-    fill(a, 0, 0);
-}
-
-pub fn map(a: &mut [u8; 4096]) {
-    fill(a, 1, 0);
-}
-
-fn mask(shape: usize, v: usize) -> u16 {
+// Shapes are numbers because they are drawn: an enum would only name each once more. So it is with those of filters.
+fn mask(shape: u64, v: u64) -> u16 {
     match shape {
         0 | 1 => 0,
         2 => (v % 65536) as u16,
@@ -102,73 +59,91 @@ fn mask(shape: usize, v: usize) -> u16 {
     }
 }
 
-// Masks of a unit: list 2 for skip, 3 for noskip.
-pub fn masks(a: &mut [u16], k: usize, list: usize) {
-    let shape = draw(k, list, 99) % 6;
-    for i in 0..a.len() {
-        a[i] = mask(shape, draw(k, list, i));
+// The masks of the list s of unit k.
+fn masks<const N: usize>(k: usize, s: u64) -> [u16; N] {
+    let shape = draw(k, s, 99) % 6;
+    from_fn(|i| mask(shape, draw(k, s, i)))
+}
+
+// Numbers below half as they are, and those from half on as the negative ones, from -1 down.
+fn signed(x: u64, half: u64) -> i64
+    requires half { half ≤ 2 ^ 31 }
+    requires x { x < half + half }
+    ensures low { neg_ℤ (pos half) ≤ℤ result }
+    ensures high { result <ℤ pos half }
+{
+    if x < half {
+        x as i64
+    } else {
+        !((x - half) as i64)
     }
 }
 
-fn narrow(shape: usize, v: usize) -> i8 {
-    match shape {
-        0 => -128,
-        1 => 127,
-        2 => { if v % 2 == 0 { -128 } else { 127 } }
-        3 => signed8(v),
-        _ => signed8(v % 16 + v / 16 % 2 * 128),
-    }
+// A number of a type of which half lies below 0: an end, either end, any number, or else the small one.
+fn number(shape: u64, v: u64, half: u64, small: u64) -> i64
+    requires half { (0 < half) × (half ≤ 2 ^ 31) }
+    requires small { small < half + half }
+    ensures low { neg_ℤ (pos half) ≤ℤ result }
+    ensures high { result <ℤ pos half }
+{
+    let least = half + half - 1;
+    let greatest = half - 1;
+    let x = match shape {
+        0 => least,
+        1 => greatest,
+        2 => if v % 2 == 0 { least } else { greatest },
+        3 => v % (half + half),
+        _ => small,
+    };
+    signed(x, half)
 }
 
-// Filters of luma, user and chroma units; each set of 18 has a shape of its own.
-pub fn narrow_sets(a: &mut [i8], k: usize) {
-    for i in 0..a.len() {
-        a[i] = narrow(draw(k, 5, i / 18) % 8, draw(k, 4, i));
-    }
+fn narrow(shape: u64, v: u64) -> i8 {
+    number(shape, v, 128, v % 16 + v / 16 % 2 * 128) as i8
 }
 
-fn wide(shape: usize, v: usize) -> i16 {
-    match shape {
-        0 => -32768,
-        1 => 32767,
-        2 => { if v % 2 == 0 { -32768 } else { 32767 } }
-        3 => signed16(v),
-        _ => signed16(v % 24 + v / 32 % 2 * 32768),
-    }
+fn wide(shape: u64, v: u64) -> i16 {
+    number(shape, v, 32768, v % 24 + v / 32 % 2 * 32768) as i16
 }
 
-// Filters of pretrained units, of 13.
-pub fn wide_sets(a: &mut [i16], k: usize) {
-    for i in 0..a.len() {
-        a[i] = wide(draw(k, 5, i / 13) % 8, draw(k, 4, i));
-    }
-}
-
-pub fn quantizer(k: usize) -> i32 {
+fn quantizer(k: usize) -> i32 {
     let v = draw(k, 6, 0);
     match draw(k, 6, 1) % 8 {
-        0 => -2147483648,
-        1 => 2147483647,
-        2 => signed32(v),
+        0 => i32::MIN,
+        1 => i32::MAX,
+        2 => signed(v % 4294967296, 2147483648) as i32,
         3 => !((v % 40000) as i32),
         _ => (v % 6000) as i32,
     }
 }
 
-// FNV-1a, whose prime is 2^40 + 2^8 + 2^7 + 2^5 + 2^4 + 2 + 1.
-fn fnv(h: usize, b: u8) -> usize {
-    let x = h ^ b as usize;
-    let a = std::num::wrapping_add_usize(x << 40, x << 8);
-    let b = std::num::wrapping_add_usize(x << 7, x << 5);
-    let c = std::num::wrapping_add_usize(x << 4, x << 1);
-    let d = std::num::wrapping_add_usize(a, b);
-    std::num::wrapping_add_usize(std::num::wrapping_add_usize(c, d), x)
+// What a unit is lent besides samples and the map. Filters come in sets, narrow ones of 18 and wide ones of 13, and each set has a shape of its own.
+#[derive(Drop)]
+pub struct Numbers {
+    pub narrow: [i8; 72],
+    pub wide: [i16; 52],
+    pub subclass: [u8; 64],
+    pub noskip: [u16; 16],
+    pub base_q: i32,
+    pub skip: [u16; 64],
 }
 
-pub fn digest(a: &[u8]) -> usize {
-    let mut h: usize = 0xcbf29ce484222325;
-    for i in 0..a.len() {
-        h = fnv(h, a[i]);
+impl Numbers {
+    pub fn new(k: usize) -> Numbers {
+        Numbers {
+            narrow: from_fn(|i| narrow(draw(k, 5, i / 18) % 8, draw(k, 4, i))),
+            wide: from_fn(|i| wide(draw(k, 5, i / 13) % 8, draw(k, 4, i))),
+            subclass: from_fn(|i| (draw(k, 1, i) % 4) as u8),
+            noskip: masks(k, 3),
+            base_q: quantizer(k),
+            skip: masks(k, 2),
+        }
     }
-    h
+}
+
+// FNV-1a.
+pub fn digest(a: &[u8]) -> u64 {
+    a.iter().fold(0xcbf29ce484222325, |h: u64, b| {
+        (h ^ u64::from(*b)).wrapping_mul(0x100000001b3)
+    })
 }

@@ -1,211 +1,65 @@
 // Chroma units, their luma subsampled horizontally.
-use crate::lists::{fill, fill_narrow, print_answer, print_title};
-use crate::luma::{height, width};
+ghost use Rattle.std.specs.Prelude.{◌≡◌};
 
-fn c<'a>(
-    name: &[u8],
-    plane: &mut [u8],
-    bottom: &[u8],
-    filter: &[i8],
-    luma: &'a [u8],
-    luma_bottom: &'a [u8],
-    w: usize,
-    h: usize,
-    edges: usize,
-    ss_ver: usize,
-    kind: usize,
-) {
-    fill(plane, 0);
-    let skip = [0u16; 64];
-    let none = [0u8; 1];
-    let r = whole::ns_wiener_single_uv_8bpc(
-        plane,
-        0,
-        68,
-        &none,
-        &none,
-        0,
-        bottom,
-        0,
-        w,
-        h,
-        filter,
-        luma,
-        0,
-        132,
-        luma_bottom,
-        0,
-        luma_bottom,
-        0,
-        1,
+use crate::lists::{self, BOTTOM, LIMITS, LUMA_STRIDE, STRIDE, Samples, samples_of, unit};
+use definition::{Given, HEIGHT_LIMIT, Lists, NO_LISTS, Operation};
+use std::array::from_fn;
+use std::io;
+
+fn given(w: usize, h: usize, ss_ver: usize, kind: usize) -> Given
+    ensures { result.stride ≡ STRIDE }
+{
+    Given {
+        luma_stride: LUMA_STRIDE,
+        ss_hor: 1,
         ss_ver,
         kind,
-        edges,
-        &skip,
-    );
-    print_title(name, w, h, edges);
-    print_answer(r, plane, 68, w, h);
-}
-
-// Rows 2 and 3 of luma's saved border below differ from row 1, and are not read.
-fn bottom_rows<'a>(
-    plane: &mut [u8],
-    bottom: &[u8],
-    filter: &[i8],
-    luma: &'a [u8],
-    luma_bottom: &'a [u8],
-) {
-    c(
-        b"bottom rows: c 4:2:0 kind 0",
-        plane,
-        bottom,
-        filter,
-        luma,
-        luma_bottom,
-        4,
-        4,
-        8,
-        1,
-        0,
-    );
-    c(
-        b"bottom rows: c 4:2:0 kind 1",
-        plane,
-        bottom,
-        filter,
-        luma,
-        luma_bottom,
-        4,
-        4,
-        8,
-        1,
-        1,
-    );
-    c(
-        b"bottom rows: c 4:2:0 kind 2",
-        plane,
-        bottom,
-        filter,
-        luma,
-        luma_bottom,
-        4,
-        4,
-        8,
-        1,
-        2,
-    );
-}
-
-// The last luma column differs from the even one before it, which is the one that repeats.
-fn last_luma_column<'a>(
-    plane: &mut [u8],
-    bottom: &[u8],
-    filter: &[i8],
-    luma: &'a [u8],
-    luma_bottom: &'a [u8],
-) {
-    c(
-        b"last luma column: c 4:2:2",
-        plane,
-        bottom,
-        filter,
-        luma,
-        luma_bottom,
-        4,
-        4,
-        0,
-        0,
-        0,
-    );
-    c(
-        b"last luma column: c 4:2:0 kind 1",
-        plane,
-        bottom,
-        filter,
-        luma,
-        luma_bottom,
-        4,
-        4,
-        0,
-        1,
-        1,
-    );
-    c(
-        b"last luma column: c 4:2:0 kind 2",
-        plane,
-        bottom,
-        filter,
-        luma,
-        luma_bottom,
-        4,
-        4,
-        0,
-        1,
-        2,
-    );
-}
-
-fn limits<'a>(
-    plane: &mut [u8],
-    bottom: &[u8],
-    filter: &[i8],
-    luma: &'a [u8],
-    luma_bottom: &'a [u8],
-) {
-    for i in 0..9 {
-        c(
-            b"limits: c",
-            plane,
-            bottom,
-            filter,
-            luma,
-            luma_bottom,
-            width(i),
-            height(i),
-            0,
-            0,
-            0,
-        );
+        ..lists::given(w, h)
     }
 }
 
-fn over_lists<'a>(
-    plane: &mut [u8],
-    bottom: &[u8],
-    filter: &[i8],
-    luma: &'a [u8],
-    luma_bottom: &'a [u8],
-) {
-    bottom_rows(plane, bottom, filter, luma, luma_bottom);
-    last_luma_column(plane, bottom, filter, luma, luma_bottom);
-    limits(plane, bottom, filter, luma, luma_bottom);
-}
-
-fn with_lists(
-    plane: &mut [u8],
-    bottom: &mut [u8],
-    filter: &mut [i8],
-    luma: &mut [u8],
-    luma_bottom: &mut [u8],
-) {
-    fill(bottom, 1);
-    fill_narrow(filter);
-    fill(luma, 2);
-    fill(luma_bottom, 3);
-    over_lists(plane, bottom, filter, luma, luma_bottom);
-}
-
-pub fn all() {
-    let mut plane = [0u8; 4352];
-    let mut bottom = [0u8; 272];
-    let mut filter = [0i8; 18];
-    let mut luma = [0u8; 8448];
-    let mut luma_bottom = [0u8; 528];
-    with_lists(
-        &mut plane,
-        &mut bottom,
-        &mut filter,
-        &mut luma,
-        &mut luma_bottom,
-    );
+pub fn all(rt: &impl Print) -> io::Result<()> {
+    let bottom: [u8; 4 * STRIDE] = samples_of(Samples::Bottom);
+    let filters: [i8; 18] = from_fn(lists::number);
+    let luma: [u8; HEIGHT_LIMIT * LUMA_STRIDE] = samples_of(Samples::Luma);
+    let luma_bottom: [u8; 4 * LUMA_STRIDE] = samples_of(Samples::LumaBottom);
+    let lent = Lists {
+        bottom: &bottom,
+        filters: &filters,
+        luma: &luma,
+        luma_bottom: &luma_bottom,
+        skip: &[0; 64],
+        ..NO_LISTS
+    };
+    let op = Operation::Chroma;
+    // Rows 2 and 3 of luma's saved border below differ from row 1, and are not read.
+    for kind in 0..3 {
+        let g = Given {
+            edges: BOTTOM,
+            ..given(4, 4, 1, kind)
+        };
+        unit(
+            rt,
+            format_args!("bottom rows: c 4:2:0 kind {kind}"),
+            op,
+            g,
+            &lent,
+        )?;
+    }
+    // The last luma column differs from the even one before it, which is the one that repeats.
+    unit(
+        rt,
+        "last luma column: c 4:2:2",
+        op,
+        given(4, 4, 0, 0),
+        &lent,
+    )?;
+    for kind in 1..3 {
+        let title = format_args!("last luma column: c 4:2:0 kind {kind}");
+        unit(rt, title, op, given(4, 4, 1, kind), &lent)?;
+    }
+    for (w, h) in LIMITS {
+        unit(rt, "limits: c", op, given(w, h, 0, 0), &lent)?;
+    }
+    Ok(())
 }

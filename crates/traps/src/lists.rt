@@ -1,100 +1,136 @@
 // The lists that the units are lent, by formulas that both programs use, and what is written of a unit.
+ghost use Rattle.std.specs.Prelude.{◌≡◌, ◌<◌, ◌≤◌};
 
-// Byte i of a list: 0 the plane of a luma or chroma unit, 1 its saved rows below, 2 luma, 3 its saved rows below, 4 the plane of a
-// classed unit, 5 the map, 6 the subclasses. No list has 65,536 bytes.
-fn byte(list: u8, i: usize) -> u8 {
-    let j = i % 65536;
-    match list {
-        4 => (60 + (j * 73 + j / 4 * 31) % 60) as u8,
-        5 => ((j * 37 + j / 64) % 64) as u8,
-        6 => (j % 4) as u8,
-        _ => ((j * 73 + j / 4 * 31 + list as usize * 57) % 256) as u8,
+use definition::{Given, HEIGHT_LIMIT, Lists, MAP_SIZE, Operation};
+use std::array::from_fn;
+use std::fmt::{self, Display};
+use std::io;
+
+pub const STRIDE: usize = 68;
+
+// The edge bit of saved rows below.
+pub const BOTTOM: usize = 8;
+
+pub const LUMA_STRIDE: usize = 132;
+
+const PLANE_SIZE: usize = HEIGHT_LIMIT * STRIDE;
+
+// Widths and heights at their limits and past them.
+pub const LIMITS: [(usize, usize); 9] = [
+    (4, 4),
+    (64, 4),
+    (0, 4),
+    (6, 4),
+    (68, 4),
+    (4, 64),
+    (4, 0),
+    (4, 68),
+    (6, 68),
+];
+
+// The lists of samples, of which each has its number in the formula.
+#[derive(Clone, Copy)]
+pub enum Samples {
+    Plane,
+    Bottom,
+    Luma,
+    LumaBottom,
+}
+
+pub fn samples_of<const N: usize>(list: Samples) -> [u8; N]
+    requires { N ≤ 65536 }
+{
+    from_fn(|i| ((i * 73 + i / 4 * 31 + list as usize * 57) % 256) as u8)
+}
+
+// Byte i of the plane of a classed unit, whose samples are close to one another.
+fn close(i: usize) -> u8
+    requires { i < PLANE_SIZE }
+{
+    (60 + (i * 73 + i / 4 * 31) % 60) as u8
+}
+
+pub fn map_entry(i: usize) -> u8
+    requires { i < MAP_SIZE }
+{
+    ((i * 37 + i / 64) % 64) as u8
+}
+
+// Number i of the filters, from -6 to 9.
+pub fn number(i: usize) -> i8
+    requires { i < 65536 }
+{
+    ((i * 5 + i / 13) % 16) as i8 - 6
+}
+
+pub fn given(w: usize, h: usize) -> Given
+    ensures { result.stride ≡ STRIDE }
+{
+    Given {
+        w,
+        h,
+        stride: STRIDE,
+        ..Given::default()
     }
 }
 
-pub fn fill(a: &mut [u8], list: u8) {
-    for i in 0..a.len() {
-        a[i] = byte(list, i);
+// A row's samples in hexadecimal.
+#[derive(Clone, Copy)]
+struct Row<'a>(&'a [u8]);
+
+impl Display for Row<'_> {
+    fn fmt<W: fmt::Write>(&self, f: &mut fmt::Formatter<W>) -> fmt::Result {
+        for sample in self.0 {
+            write!(f, "{sample:02x}")?;
+        }
+        Ok(())
     }
-}
-
-// Filter number i lies in -6..9.
-fn number(i: usize) -> i8 {
-    let j = i % 65536;
-    let v = (j * 5 + j / 13) % 16;
-    if v < 6 {
-        !((5 - v) as i8)
-    } else {
-        (v - 6) as i8
-    }
-}
-
-fn wide_number(i: usize) -> i16 {
-    let j = i % 65536;
-    let v = (j * 5 + j / 13) % 16;
-    if v < 6 {
-        !((5 - v) as i16)
-    } else {
-        (v - 6) as i16
-    }
-}
-
-pub fn fill_narrow(a: &mut [i8]) {
-    for i in 0..a.len() {
-        a[i] = number(i);
-    }
-}
-
-pub fn fill_wide(a: &mut [i16]) {
-    for i in 0..a.len() {
-        a[i] = wide_number(i);
-    }
-}
-
-fn print_number(name: &[u8], n: usize) {
-    io::write_all(1, name);
-    io::print_decimal(1, n as u64);
-}
-
-fn byte_at(s: &[u8], i: usize) -> u8 {
-    if i < s.len() { s[i] } else { 0 }
-}
-
-fn print_row(s: &[u8], from: usize, n: usize) {
-    io::write_all(1, b"row=");
-    for i in 0..n {
-        io::print_hex(
-            1,
-            byte_at(s, std::num::wrapping_add_usize(from, i)) as u64,
-            2,
-        );
-    }
-    io::write_all(1, b"\n");
-}
-
-fn print_rows(s: &[u8], stride: usize, w: usize, h: usize) {
-    let mut from: usize = 0;
-    for _y in 0..h {
-        print_row(s, from, w);
-        from = std::num::wrapping_add_usize(from, stride);
-    }
-}
-
-pub fn print_title(name: &[u8], w: usize, h: usize, edges: usize) {
-    io::write_all(1, name);
-    print_number(b" w=", w);
-    print_number(b" h=", h);
-    print_number(b" edges=", edges);
 }
 
 // The rows of the rectangle; of a refused unit four samples of four rows, which are as they were.
-pub fn print_answer(r: whole::Restored, plane: &[u8], stride: usize, w: usize, h: usize) {
-    print_number(b"\nstatus=", r.status as usize);
-    print_number(b"\nfiltered=", r.pieces);
-    io::write_all(1, b"\n");
-    if r.status == 0 {
-        print_rows(plane, stride, w, h);
-    } else {
-        print_rows(plane, stride, 4, 4);
+fn print_rows(rt: &impl Print, g: Given, plane: &[u8], refused: bool) -> io::Result<()>
+    requires { 0 < g.stride }
+{
+    let (w, h) = if refused { (4, 4) } else { (g.w, g.h) };
+    for row in plane.chunks(g.stride).take(h) {
+        println!(rt; "row={}", Row(&row[..w.min(row.len())]))?;
     }
+    Ok(())
+}
+
+// Restores a unit and writes what came of it.
+pub fn restore(
+    rt: &impl Print,
+    title: impl Display + Drop,
+    op: Operation,
+    g: Given,
+    plane: &mut [u8],
+    lent: &Lists<'_>,
+) -> io::Result<()>
+    requires { 0 < g.stride }
+{
+    let restored = whole::restore(op, g, plane, lent);
+    println!(rt; "{title} w={} h={} edges={}", g.w, g.h, g.edges)?;
+    match restored {
+        Ok(pieces) => println!(rt; "status=0\nfiltered={pieces}")?,
+        Err(refusal) => println!(rt; "status={}\nfiltered=0", u8::from(refusal))?,
+    }
+    print_rows(rt, g, plane, restored.is_err())
+}
+
+// The same on a plane that depends on the operation alone.
+pub fn unit(
+    rt: &impl Print,
+    title: impl Display + Drop,
+    op: Operation,
+    g: Given,
+    lent: &Lists<'_>,
+) -> io::Result<()>
+    requires { 0 < g.stride }
+{
+    let mut plane: [u8; PLANE_SIZE] = match op {
+        Operation::Luma | Operation::Chroma => samples_of(Samples::Plane),
+        Operation::User | Operation::Pretrained => from_fn(close),
+    };
+    restore(rt, title, op, g, &mut plane, lent)
 }

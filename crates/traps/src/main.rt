@@ -8,8 +8,10 @@ mod classed;
 mod lists;
 mod luma;
 
-fn main() {
-    luma::all();
-    classed::all();
-    chroma::all();
+use std::io;
+
+fn main(rt: HostRuntime) -> io::Result<()> {
+    luma::all(&rt)?;
+    classed::all(&rt)?;
+    chroma::all(&rt)
 }

@@ -1,7 +1,7 @@
 -- A chroma unit's opening, made of its rows.
 use mathlib.Core.Path.{◌≡◌, refl, sym, ◌∙◌, ap}
 use mathlib.Core.Bool.{Bool, true, false, cond}
-use mathlib.Core.List.{List, [], ◌++◌}
+use mathlib.Core.List.{List, ◌++◌}
 use Prim.Native.Nat.{ℕ, zero, suc, ◌+◌, ◌*◌, ◌≤◌}
 use native.Mathlib.Nat.{suc-mul}
 use native.Mathlib.Omega.{arith}
@@ -15,10 +15,7 @@ use Rattle.definition.specs.Units.{Lent}
 use Rattle.model.proofs.Rows.{pad_row, first_row, pad_size}
 use Rattle.model.proofs.LumaRows.{luma_pad_row}
 use Rattle.model.proofs.Opening.{filled, filled_rows, filled-size, open_ring, open_rings}
-use Rattle.units.specs.Lent.{rows_lent, luma_rows_lent}
-use Rattle.definition.specs.Calls.{chroma_lent}
 use Rattle.units.proofs.TwoLists.{sets_first}
-use Rattle.units.proofs.Openings.{pad_lent, luma-lent}
 use Rattle.units.proofs.TwoRings.{take_first, drop_first}
 
 -- ROWS FILLED IN FRONT of a rest that stays
@@ -35,37 +32,31 @@ module _ (len first : ℕ) (pad : ℕ → List ℕ) (a b : List ℕ) (sized : (R
       (one_split (leb first n) (filled_rows len first pad a n) (pad n) (n * len) (omega (arith, suc-mul n len, sized n, filled-size len first pad a sized n)))
 
 -- THE ROWS OF AN OPENING: those of the chroma ring, then the luma rows
-module _ (left top bottom : List ℕ) (n : Given) (p : List ℕ) where
-  abbrev given : Given
-  given = n
-
+module _ (l : Lent) (n : Given) (p : List ℕ) where
   abbrev first : ℕ
-  first = first_row Chroma given
+  first = first_row Chroma n
 
   abbrev own_rows : List ℕ
-  own_rows = filled_rows row_bytes first (pad_row Chroma given (rows_lent left top bottom) p) (replicate luma_rows_at 0) 4
+  own_rows = filled_rows row_bytes first (pad_row Chroma n l p) (replicate luma_rows_at 0) 4
 
   own-long : length own_rows ≡ luma_rows_at
-  own-long = filled-size row_bytes first (pad_row Chroma given (rows_lent left top bottom) p) (replicate luma_rows_at 0) (pad_size Chroma given (rows_lent left top bottom) p) 4 ∙ length-replicate {A = ℕ} luma_rows_at 0
+  own-long = filled-size row_bytes first (pad_row Chroma n l p) (replicate luma_rows_at 0) (pad_size Chroma n l p) 4 ∙ length-replicate {A = ℕ} luma_rows_at 0
 
-  in_front : {rows : List ℕ} → rows ≡ filled Chroma given (rows_lent left top bottom) p (replicate state_bytes 0) 4 → rows ≡ own_rows ++ replicate (5 * luma_row_bytes) 0
+  in_front : {rows : List ℕ} → rows ≡ filled Chroma n l p (replicate state_bytes 0) 4 → rows ≡ own_rows ++ replicate (5 * luma_row_bytes) 0
   unfolding filled
   in_front e =
       e ∙
-      (ap (λ (b : List ℕ). filled_rows row_bytes first (pad_row Chroma given (rows_lent left top bottom) p) b 4) (sym (replicate-append-replicate {A = ℕ} luma_rows_at (5 * luma_row_bytes) 0)) ∙
-      filled_split row_bytes first (pad_row Chroma given (rows_lent left top bottom) p) (replicate luma_rows_at 0) (replicate (5 * luma_row_bytes) 0) (pad_size Chroma given (rows_lent left top bottom) p) 4
+      (ap (λ (b : List ℕ). filled_rows row_bytes first (pad_row Chroma n l p) b 4) (sym (replicate-append-replicate {A = ℕ} luma_rows_at (5 * luma_row_bytes) 0)) ∙
+      filled_split row_bytes first (pad_row Chroma n l p) (replicate luma_rows_at 0) (replicate (5 * luma_row_bytes) 0) (pad_size Chroma n l p) 4
       (rw (length-replicate {A = ℕ} luma_rows_at 0) (omega arith)))
 
-  pub blank-behind : {rows : List ℕ} → rows ≡ filled Chroma given (rows_lent left top bottom) p (replicate state_bytes 0) 4 → drop luma_rows_at rows ≡ replicate (5 * luma_row_bytes) 0
+  pub blank-behind : {rows : List ℕ} → rows ≡ filled Chroma n l p (replicate state_bytes 0) 4 → drop luma_rows_at rows ≡ replicate (5 * luma_row_bytes) 0
   blank-behind e = ap (λ (r : List ℕ). drop luma_rows_at r) (in_front e) ∙ drop_first own_rows (replicate (5 * luma_row_bytes) 0) luma_rows_at own-long
 
-  pub opened : (luma_plane luma_top luma_bottom : List ℕ) {rows rows' : List ℕ} → rows ≡ filled Chroma given (rows_lent left top bottom) p (replicate state_bytes 0) 4 →
-      rows' ≡ take luma_rows_at rows ++ filled_rows luma_row_bytes first (luma_pad_row given (luma_rows_lent luma_plane luma_top luma_bottom)) (replicate (5 * luma_row_bytes) 0) 4 →
-      rows' ≡ (open_rings Chroma n (chroma_lent left top bottom [] luma_plane luma_top luma_bottom []) p).slots
+  pub opened : {rows rows' : List ℕ} → rows ≡ filled Chroma n l p (replicate state_bytes 0) 4 →
+      rows' ≡ take luma_rows_at rows ++ filled_rows luma_row_bytes first (luma_pad_row n l) (replicate (5 * luma_row_bytes) 0) 4 →
+      rows' ≡ (open_rings Chroma n l p).slots
   unfolding open_ring filled
-  opened luma_plane luma_top luma_bottom {rows = rows} e d =
-      let l : Lent = chroma_lent left top bottom [] luma_plane luma_top luma_bottom [] in
+  opened {rows = rows} e d =
       let t : take luma_rows_at rows ≡ own_rows = ap (λ (r : List ℕ). take luma_rows_at r) (in_front e) ∙ take_first own_rows (replicate (5 * luma_row_bytes) 0) luma_rows_at own-long in
-      d ∙
-      ((λ k. t k ++ filled_rows luma_row_bytes first (luma_pad_row given (luma_rows_lent luma_plane luma_top luma_bottom)) (replicate (5 * luma_row_bytes) 0) 4) ∙
-      (λ k. filled_rows row_bytes first (λ R. pad_lent Chroma l given p R k) (replicate luma_rows_at 0) 4 ++ filled_rows luma_row_bytes first (λ R. luma-lent l given R k) (replicate (5 * luma_row_bytes) 0) 4))
+      d ∙ (λ k. t k ++ filled_rows luma_row_bytes first (luma_pad_row n l) (replicate (5 * luma_row_bytes) 0) 4)

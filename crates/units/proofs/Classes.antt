@@ -2,7 +2,7 @@
 use mathlib.Core.Path.{◌≡◌, refl, ◌∙◌}
 use mathlib.Core.Bool.{true}
 use mathlib.Core.List.{List}
-use Prim.Native.Nat.{ℕ, zero, suc, ◌+◌, ◌/◌, ◌≤◌, ◌<◌}
+use Prim.Native.Nat.{ℕ, ◌+◌, ◌/◌, ◌≤◌, ◌<◌}
 use native.Mathlib.Nat.{zero-add}
 use native.Mathlib.Decide.{dec_lt}
 use native.Mathlib.Omega.{arith}
@@ -11,19 +11,19 @@ use lib.IntN.{ℤ}
 use lib.ListN.{length, get_or, replicate}
 use lib.Seq.{sets}
 use borrow.Author.Tests.{ltb-true, le-ltb, le-leb, lt-leb}
+use Rattle.definition.specs.Blocks.{side}
 use Rattle.definition.specs.Limits.{block_column_limit, block_row_limit, map_size}
 use Rattle.definition.specs.declared.Given.{Given}
-use Rattle.definition.specs.Rows.{tab, or_zero}
+use Rattle.definition.specs.Rows.{tab}
 use Rattle.definition.specs.ClassIndex.{bin, term, feature_bin, index_of, class_index, last_column}
 use Rattle.definition.specs.Refusals.{every, rows_size}
 use Rattle.definition.specs.Units.{Lent}
-use Rattle.definition.specs.Leaves.{rows_status, row_features_status, block_flat, feature_row, served, place_status}
+use Rattle.definition.specs.Leaves.{rows_status, row_features_status, block_flat, feature_row, place_status}
 use Rattle.laws.proofs.Lists.{sets_in, sets_behind, length_tab, get_or-tab}
 use Rattle.laws.proofs.Passes.{pass_all}
 use Rattle.history.proofs.Ring.{Ring}
-use Rattle.units.specs.Lent.{class_lent}
 use Rattle.refusals.proofs.Every.{every-at}
-use Rattle.model.proofs.Step.{class_at, ring}
+use Rattle.model.proofs.Step.{class_at}
 
 pub bin-low : (v : ℤ) → bin v ≤ 7
 unfolding bin
@@ -40,35 +40,21 @@ index-low f₀ f₁ f₂ q t =
     omega (arith, a, b, c, d)
 
 -- the call for the features is not refused, and answers each block's
-features_serve : (rows : ℕ) (indices : List ℕ) (n : ℕ) → rows_size ≤ rows → ((j : ℕ) → j < 10 → get_or indices j 0 ≤ 9) → n ≤ block_column_limit → row_features_status rows indices n ≡ 0
+pub features_serve : (rows : ℕ) (indices : List ℕ) (n : ℕ) → rows_size ≤ rows → ((j : ℕ) → j < 10 → get_or indices j 0 ≤ 9) → n ≤ block_column_limit → row_features_status rows indices n ≡ 0
 unfolding rows_status
 features_serve rows indices n size small few =
     rw (le-leb rows_size rows size, pass_all (λ i. leb i 9) indices 10 (λ k h. le-leb (get_or indices k 0) 9 (small k h)), le-leb n block_column_limit few)
 
-pub feature-at : (rows : ℕ) (indices : List ℕ) (n status bx : ℕ) (f : ℕ → ℕ) (r : List ℕ) → rows_size ≤ rows → ((j : ℕ) → j < 10 → get_or indices j 0 ≤ 9) → n ≤ block_column_limit → bx < n →
-    status ≡ row_features_status rows indices n → r ≡ feature_row (served status n) f → get_or r bx 0 ≡ f bx
-feature-at rows indices n status bx f r size small few l e is =
-    let z : status ≡ 0 = e ∙ features_serve rows indices n size small few in
+pub row-at : (n bx : ℕ) (f : ℕ → ℕ) → n ≤ block_column_limit → bx < n → get_or (feature_row n f) bx 0 ≡ f bx
+row-at n bx f few l =
     let at : get_or (feature_row n f) (0 + bx) 0 ≡ get_or (tab n f) bx 0 =
     sets_in (tab n f) (replicate block_column_limit 0) 0 bx (rw (length_tab n f) l) (omega arith) in
-    rw (is, z) (rw (zero-add bx) at at ∙ get_or-tab n f bx l)
+    rw (zero-add bx) at at ∙ get_or-tab n f bx l
 
 -- the call for the index is not refused
-place_serves : (noskip bx by bh : ℕ) → bx ≤ last_column → by < bh → bh ≤ block_row_limit → bh ≤ noskip → place_status noskip bx by bh ≡ 0
+pub place_serves : (noskip bx by bh : ℕ) → bx ≤ last_column → by < bh → bh ≤ block_row_limit → bh ≤ noskip → place_status noskip bx by bh ≡ 0
 unfolding place_status
 place_serves noskip bx by bh column line limit masks = rw (le-ltb last_column bx column, le-ltb block_row_limit bh limit, lt-leb bh by line, le-ltb noskip bh masks)
-
--- what a call answers: the index, in the map
-or_zero-low : (status n : ℕ) → n < map_size → or_zero status n < map_size
-or_zero-low zero n h = h
-or_zero-low (suc status) n h = omega arith
-
-module _ (noskip bx by bh index : ℕ) where
-  pub placed_low : index < map_size → or_zero (place_status noskip bx by bh) index < map_size
-  placed_low h = or_zero-low (place_status noskip bx by bh) index h
-
-  pub placed_is : bx ≤ last_column → by < bh → bh ≤ block_row_limit → bh ≤ noskip → or_zero (place_status noskip bx by bh) index ≡ index
-  placed_is column line limit masks = rw (place_serves noskip bx by bh column line limit masks)
 
 -- an entry of a list that is all below n
 pub entry_low : (xs : List ℕ) (n k : ℕ) → k < length xs → every (λ x. ltb x n) xs ≡ true → get_or xs k 0 < n
@@ -79,10 +65,10 @@ abbrev pub class_by : List ℕ → List ℕ → List ℕ → ℤ → List ℕ �
 class_by rows indices noskip q map subclass by bh bx =
     get_or subclass (get_or map (class_index (block_flat rows indices bx) noskip q bx by bh) 0) 0
 
-pub class_is : (g : Given) (rows indices noskip map subclass : List ℕ) (q : ℤ) (next y bx : ℕ) →
-    class_by rows indices noskip q map subclass (y / 4) (g.h / 4) bx ≡ class_at g (class_lent noskip map subclass q) (ring rows indices next) y bx
+pub class_is : (g : Given) (l : Lent) (r : Ring) (y bx : ℕ) →
+    class_by r.slots r.idx l.noskip l.q l.map l.subclass (y / side) (g.h / side) bx ≡ class_at g l r y bx
 unfolding class_at
-class_is g rows indices noskip map subclass q next y bx = refl
+class_is g l r y bx = refl
 
 -- a class is below the number of sets
 pub class_low : (g : Given) (l : Lent) (r : Ring) (y bx n : ℕ) → length l.map ≡ map_size → every (λ m. ltb m (length l.subclass)) l.map ≡ true →

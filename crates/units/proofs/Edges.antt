@@ -7,38 +7,7 @@ use Rattle.definition.specs.declared.Operation.{Operation}
 use Rattle.definition.specs.Padding.{has_top, has_bottom, top_integrated, bottom_integrated}
 use Rattle.definition.specs.Units.{border, saved_above}
 use Rattle.definition.specs.Refusals.{top_rows, bottom_rows, plane_rows}
-use Rattle.model.proofs.Rows.{below_rows}
 use Rattle.operations.proofs.Borders.{border-low}
-
-module _ (op : Operation) (edges : ℕ) where
-  pub below_rows_lem : below_rows op edges ≡ cond (bottom_integrated edges) (border op) (cond (has_bottom edges) 2 0)
-  below_rows_lem = of (bottom_integrated edges) (has_bottom edges)
-    where
-      of : (int bottom : Bool) → cond int (border op) 0 + cond int 0 (cond bottom 2 0) ≡ cond int (border op) (cond bottom 2 0)
-      of true bottom = omega arith
-      of false true = refl
-      of false false = refl
-
-  rows_high : (int top : Bool) → cond int (border op) (cond top 2 0) ≤ border op
-  rows_high true top = omega arith
-  rows_high false true = border-low op
-  rows_high false false = omega arith
-
-  pub top_high : top_rows op edges ≤ border op
-  top_high = rows_high (top_integrated edges) (has_top edges)
-
-  pub below_high : below_rows op edges ≤ border op
-  below_high = rw below_rows_lem (rows_high (bottom_integrated edges) (has_bottom edges))
-
-  -- the rows by the bits as they are tested
-  pub below_integrated : {a : Bool} → a ≡ bottom_integrated edges → a ≡ true → border op ≡ below_rows op edges
-  below_integrated e h = sym (below_rows_lem ∙ rw (← e, h))
-
-  pub below_saved : {a b : Bool} → a ≡ bottom_integrated edges → a ≡ false → b ≡ has_bottom edges → b ≡ true → 2 ≡ below_rows op edges
-  below_saved e h f k = sym (below_rows_lem ∙ rw (← e, h, ← f, k))
-
-  pub below_none : {a b : Bool} → a ≡ bottom_integrated edges → a ≡ false → b ≡ has_bottom edges → b ≡ false → 0 ≡ below_rows op edges
-  below_none e h f k = sym (below_rows_lem ∙ rw (← e, h, ← f, k))
 
 some-above : (int top : Bool) (e : ℕ) → 0 < cond int e (cond top 2 0) → (int || top) ≡ true
 some-above true top e h = refl

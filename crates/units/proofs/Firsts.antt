@@ -11,10 +11,8 @@ use borrow.Author.Tests.{eqb-true, not-true, not-false, lt-ltb}
 use Rattle.definition.specs.Limits.{block_column_limit}
 use Rattle.laws.proofs.Passes.{not_both}
 use Rattle.definition.specs.Blocks.{masked, first_of, stretch_start}
-use Rattle.definition.specs.Leaves.{block_status, end_from}
-use Rattle.definition.specs.Rows.{or_zero}
+use Rattle.definition.specs.Leaves.{end_from}
 use Rattle.blocks.proofs.First.{first-low, first_most, first_fails, first_holds}
-use Rattle.blocks.proofs.Told.{block_in}
 
 -- the blocks from a to b are masked; none of them is
 abbrev pub Kept : ℕ → ℕ → ℕ → Type 0
@@ -32,9 +30,9 @@ pub record ClassStretch (mask : ℕ) (classes : List ℕ) (bx bw start end : ℕ
   pub clear : Open mask start end
   pub alike : (k : ℕ) → start ≤ k → k < end → get_or classes k 0 ≡ get_or classes start 0
 
-module _ (mask : ℕ) (classes : List ℕ) (bx bw start : ℕ) (h : bw ≤ block_column_limit) (l : bx ≤ bw) (s : start ≡ or_zero (block_status bx bw) (stretch_start mask bx bw)) where
+module _ (mask : ℕ) (classes : List ℕ) (bx bw start : ℕ) (h : bw ≤ block_column_limit) (l : bx ≤ bw) (s : start ≡ stretch_start mask bx bw) where
   start_is : start ≡ first_of (λ k. not (masked mask k)) bx (bw - bx)
-  start_is = let z : block_status bx bw ≡ 0 = block_in bx bw h l in s ∙ rw z
+  start_is = s
 
   pub kept-before : Kept mask bx start
   kept-before k a b = not-false (masked mask k) (first_fails (λ k. not (masked mask k)) (bw - bx) bx k a (rw start_is at b))
@@ -43,15 +41,14 @@ module _ (mask : ℕ) (classes : List ℕ) (bx bw start : ℕ) (h : bw ≤ block
   pub all-kept : bw ≤ start → Kept mask bx bw
   all-kept g k a b = kept-before k a (omega arith)
 
-  pub class_stretch : (end : ℕ) → start < bw → end ≡ or_zero (block_status bx bw) (end_from mask classes (stretch_start mask bx bw) bw) → ClassStretch mask classes bx bw start end
+  pub class_stretch : (end : ℕ) → start < bw → end ≡ end_from mask classes (stretch_start mask bx bw) bw → ClassStretch mask classes bx bw start end
   class_stretch end g q =
-      let z : block_status bx bw ≡ 0 = block_in bx bw h l in
       let t : ℕ → Bool = λ k. masked mask k || not (eqb (get_or classes k 0) (get_or classes start 0)) in
       let i = start_is in
       let low : bx ≤ start = omega (arith, first-low (λ k. not (masked mask k)) (bw - bx) bx) in
       let here : masked mask start ≡ false =
       rw i (not-true (masked mask (first_of (λ k. not (masked mask k)) bx (bw - bx))) (first_holds (λ k. not (masked mask k)) (bw - bx) bx (omega arith))) in
-      let d : end ≡ first_of t (start + 1) (bw - (start + 1)) = q ∙ rw (z, ← i, lt-ltb start bw g) in
+      let d : end ≡ first_of t (start + 1) (bw - (start + 1)) = q ∙ rw (← i, lt-ltb start bw g) in
       let fails : (k : ℕ) → start + 1 ≤ k → k < end → t k ≡ false = λ k a b. first_fails t (bw - (start + 1)) (start + 1) k a (rw d at b) in
       record {
         kept = kept-before;

@@ -1,11 +1,9 @@
 pub mod Edges
-pub mod Rings
 pub mod Sources
 pub mod Firsts
 pub mod Stretches
 pub mod Runs
 pub mod Samples
-pub mod Copies
 pub mod Pieces
 pub mod Admissions
 pub mod Openings

@@ -6,11 +6,7 @@ use Prim.Native.Nat.{ℕ, zero, suc, ◌+◌, ◌≤◌}
 use native.Mathlib.Nat.{add-zero}
 use native.Mathlib.Numerals.{add-one}
 use native.Mathlib.Omega.{arith}
-use borrow.Author.Tests.{le-leb}
-use Rattle.definition.specs.Limits.{block_column_limit}
 use Rattle.definition.specs.Blocks.{mask_at, masked, clear_below, pieces_of}
-use Rattle.definition.specs.Leaves.{row_status}
-use Rattle.definition.specs.Rows.{or_zero}
 
 -- a row of blocks has at most a piece for each
 one-low : (b : Bool) → cond b 0 1 ≤ 1
@@ -21,9 +17,6 @@ pub clear-low : (mask bw : ℕ) → clear_below mask bw ≤ bw
 unfolding clear_below
 clear-low mask zero = omega arith
 clear-low mask (suc bw) = omega (arith, one-low (masked mask bw), clear-low mask bw)
-
-pub row-pieces : (mask bw : ℕ) → bw ≤ block_column_limit → or_zero (row_status bw) (clear_below mask bw) ≡ clear_below mask bw
-row-pieces mask bw h = rw (le-leb bw block_column_limit h)
 
 module _ (skip : List ℕ) (bw : ℕ) where
   -- a row more at the end

@@ -4,8 +4,11 @@ use mathlib.Core.Bool.{cond}
 use mathlib.Core.List.{List}
 use Prim.Native.Nat.{ℕ, ◌+◌, ◌*◌, ◌-◌, ◌<◌}
 use native.Mathlib.Nat.{zero-add}
+use native.Mathlib.Omega.{arith}
 use lib.IntN.{ℤ, pos}
-use lib.ListN.{get_or, replicate}
+use Rattle.std.specs.Prelude.{slice_range}
+use lib.Seq.{get_or-take, get_or-drop}
+use lib.ListN.{drop, get_or, replicate}
 use lib.Seq.{sets}
 use Rattle.definition.specs.declared.Operation.{Operation}
 use Rattle.definition.specs.declared.Operation.TheVariants.{Luma, User, Pretrained, Chroma}
@@ -25,6 +28,12 @@ set_at Luma filters cls k = ap (λ (i : ℕ). get_or filters i (pos 0)) (zero-ad
 set_at User filters cls k = refl
 set_at Pretrained filters cls k = refl
 set_at Chroma filters cls k = ap (λ (i : ℕ). get_or filters i (pos 0)) (zero-add k)
+
+-- .. as they stand in an array
+pub part-at : (xs : List ℤ) (a n k : ℕ) → k < n → get_or (slice_range xs a (a + n)) k (pos 0) ≡ get_or xs (a + k) (pos 0)
+part-at xs a n k h =
+    let d : a + n - a ≡ n = omega arith in
+    rw d (get_or-take n (drop a xs) k (pos 0) h ∙ get_or-drop a xs k (pos 0))
 
 -- numbers to a set that a sample uses
 abbrev pub used_of : Operation → ℕ

@@ -7,8 +7,6 @@ use native.Mathlib.Nat.{mul-le-mul_right, one-mul}
 use native.Mathlib.Omega.{arith}
 use lib.Dec.{leb}
 use lib.IntN.{ℤ, pos, negsuc, ◌-ℤ◌}
-use lib.ListN.{replicate}
-use lib.Seq.{sets}
 use borrow.Author.Tests.{le-leb, lt-ltb, le-ltb}
 use Rattle.definition.specs.declared.Operation.{Operation}
 use Rattle.definition.specs.declared.Given.{Given}
@@ -17,10 +15,11 @@ use Rattle.definition.specs.Padding.{has_left, has_right, has_bottom, bottom_int
 use Rattle.definition.specs.Units.{border, Lent, unit_row, sample_at, own_row, plane_row, top_row, bottom_row, saved_above}
 use Rattle.definition.specs.Refusals.{beside, top_rows, bottom_rows, plane_rows, left_of, right_of}
 use Rattle.laws.proofs.Ints.{sub_pos, sub_neg}
-use Rattle.definition.specs.Leaves.{backup_status, lpf_status, padded_row}
+use Rattle.definition.specs.Leaves.{backup_status, lpf_status}
 use Rattle.model.proofs.Rows.{pad_row, first_row}
 use Rattle.laws.proofs.Inside.{Inside}
 use Rattle.operations.proofs.Borders.{border_high}
+use Rattle.units.specs.Padded.{row_from}
 use Rattle.units.proofs.Edges.{above_saved, saved_above_lem}
 use Rattle.units.specs.Windows.{PlaneLies, TopLies, BottomLies}
 
@@ -105,10 +104,6 @@ module _ {op : Operation} {g : Given} {plane left : ℕ} (lie : PlaneLies op g p
       (omega (arith, lie.wide.low)) (omega (arith, border_high op)) width (bottom-inside b n h) (omega (arith, i.low)))
 
 -- THE ROW
--- the padded row made from what stands at row y of the unit, or below it
-abbrev pub row_from : ℕ → ℕ → ℕ → (ℤ → ℕ) → List ℕ
-row_from edges w e row = sets (replicate row_bytes 0) (row_origin - e) (padded_row edges w e row)
-
 module _ (op : Operation) (g : Given) (l : Lent) (p : List ℕ) where
   pub pad_from : (r : ℕ) (row : ℤ → ℕ) → ((c : ℤ) → unit_row op g l p (pos r -ℤ pos (border op)) c ≡ row c) → pad_row op g l p r ≡ row_from g.edges g.w (border op) row
   unfolding pad_row sample_at

@@ -1,20 +1,17 @@
 -- A row written in stretches: what the plane is once the blocks below bx are done, a masked stretch more, a run more.
 use mathlib.Core.Path.{◌≡◌, refl, sym, ◌∙◌, ap}
 use mathlib.Core.Bool.{true, false, cond}
-use mathlib.Core.List.{List, append_assoc}
+use mathlib.Core.List.{List}
 use Prim.Native.Nat.{ℕ, ◌+◌, ◌*◌, ◌-◌, ◌/◌, ◌≤◌, ◌<◌}
 use native.Mathlib.Omega.{arith}
-use lib.ListN.{length, get_or, take, drop}
-use lib.Seq.{sets, sets-eq, length-sets, drop-drop}
+use lib.ListN.{length, get_or}
+use lib.Seq.{sets, length-sets}
 use borrow.Rule.Slice.PartMut.{put_mid, mid_of, mid_len}
 use Rattle.definition.specs.Rows.{tab}
 use Rattle.definition.specs.Blocks.{masked}
 use Rattle.laws.proofs.Lists.{tab_cong, length_tab, sets_keep, sets_run, sets_all}
+use Rattle.padding.proofs.Put.{put_at}
 use Rattle.units.proofs.Firsts.{Kept, Open}
-
--- a part that comes back is stored element by element
-put_sets : (a k : ℕ) (xs vs : List ℕ) → length vs ≡ k → a + k ≤ length xs → put_mid a k xs vs ≡ sets xs a vs
-put_sets a k xs vs e h = rw (sets-eq vs xs a (omega arith), e, drop-drop k a xs) (sym (append_assoc (take a xs) vs (drop (a + k) xs)))
 
 over : (l : List ℕ) (n : ℕ) (f : ℕ → ℕ) → length l ≡ n → sets l 0 (tab n f) ≡ tab n f
 over l n f e = rw (← e) (sets_all l f)
@@ -28,7 +25,7 @@ run-back q vs at x0 x1 f l room ev =
     let n : length m ≡ at + x1 - (at + x0) = mid_len (at + x0) (at + x1) q room in
     let d : at + x1 - (at + x0) ≡ x1 - x0 = omega arith in
     let whole : vs ≡ tab (x1 - x0) f = ev ∙ over m (at + x1 - (at + x0)) f n ∙ ap (λ (j : ℕ). tab j f) d in
-    rw (d, whole) (put_sets (at + x0) (x1 - x0) q (tab (x1 - x0) f) (length_tab (x1 - x0) f) (omega arith))
+    rw (d, whole) (put_at (at + x0) (x1 - x0) q (tab (x1 - x0) f) (sym (length_tab (x1 - x0) f)) (omega arith))
 
 module _ (p : List ℕ) (at mask : ℕ) (f : ℕ → ℕ) where
   -- sample x of the row: the old one in a masked block

@@ -15,7 +15,7 @@ use Rattle.history.proofs.Ring.{Ring, fetch, slid, slid_length, slid-low, set_lo
 use Rattle.model.proofs.Rows.{pad_row, own, pad_size}
 use Rattle.model.proofs.LumaRows.{luma_pad_row}
 use Rattle.units.proofs.TwoLists.{set_second, sets_first, sets_second}
-use Rattle.model.proofs.Step.{ring, fetch_behind, taken, slid_by, LumaFetched}
+use Rattle.model.proofs.Step.{ring, fetch_behind, taken, slid_by}
 
 -- TWO LISTS, one behind the other
 pub get_or_second : (a b : List ℕ) (n i : ℕ) → length a ≡ n → get_or (a ++ b) (n + i) 0 ≡ get_or b i 0
@@ -42,26 +42,7 @@ pub both-slid : (j : ℕ) (a b : List ℕ) → length a ≡ 5 → j < 4 →
     slid (j + 1) a ++ slid (j + 1) b
 both-slid j a b e h = rw add-one (pair_set (slid j a) (slid j b) 5 j (suc j) (slid_length j a ∙ e) (omega arith) (omega arith))
 
--- WHAT IS FETCHED into the luma ring
-module _ (g : Given) (l : Lent) (done : ℕ) (rows idx : List ℕ) (next : ℕ) where
-  pub luma-own : {b : Bool} {rows' : List ℕ} → b ≡ own Chroma g (done + 4) → b ≡ true → rows' ≡ sets rows (luma_rows_at + next * luma_row_bytes) (luma_pad_row g l (done + 4)) →
-      LumaFetched g l done (ring rows idx next) (ring rows' (set idx 9 next) next)
-  luma-own o t s =
-      record {
-        is =
-            let u : own Chroma g (done + 4) ≡ true = sym o ∙ t in
-            rw (u, s);
-      }
-
-  pub luma_again : {b : Bool} → b ≡ own Chroma g (done + 4) → b ≡ false → LumaFetched g l done (ring rows idx next) (ring rows (set idx 9 (get_or idx 8 0)) next)
-  luma_again o t =
-      record {
-        is =
-            let u : own Chroma g (done + 4) ≡ false = sym o ∙ t in
-            rw u;
-      }
-
--- .. and into both: over the arrays, and over their parts
+-- WHAT IS FETCHED into both rings: over the arrays, and over their parts
 abbrev through : Bool → List ℕ → List ℕ → Ring → Ring
 through b row luma r =
     ring (fetch_behind b luma (ring (fetch row_bytes 4 b row r).slots (fetch row_bytes 4 b row r).idx r.next)).slots

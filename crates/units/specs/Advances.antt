@@ -1,7 +1,9 @@
 -- An advance over any state: its status, and rows one after another, each by the step of the model. That these steps restore the definition's samples is the theorem
 -- of the histories, over a unit that was opened.
-use Rattle.std.specs.Prelude.{◌≡◌, Bool, cond, not, ◌&&◌, ◌||◌, List, ℕ, ◌/◌, eqb}
+use Rattle.std.specs.Prelude.{◌≡◌, Bool, cond, not, ◌&&◌, ◌||◌, List, ℕ, ◌/◌, eqb, Result}
 use Rattle.definition.specs.declared.Operation.{Operation}
+use Rattle.definition.specs.declared.Refusal.{Refusal}
+use Rattle.definition.specs.Answers.{status_from, value_from}
 use Rattle.definition.specs.declared.Sizes.{Sizes}
 use Rattle.definition.specs.Blocks.{side, pieces_of}
 use Rattle.definition.specs.Units.{number_of}
@@ -44,6 +46,10 @@ units =
 
 unfoldable pub answer : Call → State → List ℕ → Out State
 answer c s p = advanced units c s p
+
+-- a state after an advance, and its pieces or why it is refused, as C has them
+abbrev pub advanced_of : State → Result ℕ Refusal → Advanced
+advanced_of s r = record { status = status_from r; pieces = value_from r; state = s }
 
 -- the code's answer and the plane that it left are that
 pub record Answered (r : Advanced) (q : List ℕ) (o : Out State) : Type 0 where

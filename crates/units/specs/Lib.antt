@@ -4,6 +4,7 @@ pub mod Advances
 pub mod Histories
 -- The others need not be read: the model of a row's step, whose samples the theorem of the histories gives, and what private functions ask and leave.
 pub mod Step
-pub mod Lent
+pub mod Padded
+pub mod Restored
 pub mod Windows
 pub mod LumaFrom

@@ -1,6 +1,8 @@
 -- Opening a unit of any operation: the state that it hands out.
-use Rattle.std.specs.Prelude.{◌≡◌, List, ℕ, zero, suc, replicate}
+use Rattle.std.specs.Prelude.{◌≡◌, List, ℕ, zero, suc, replicate, Result, Ok, Err}
 use Rattle.definition.specs.declared.Operation.{Operation}
+use Rattle.definition.specs.declared.Refusal.{Refusal}
+use Rattle.definition.specs.Answers.{number}
 use Rattle.definition.specs.declared.Given.{Given}
 use Rattle.definition.specs.Rows.{index_count, state_bytes}
 use Rattle.definition.specs.Limits.{block_column_limit}
@@ -43,6 +45,11 @@ no_state =
 abbrev pub state_unless : ℕ → State → State
 state_unless zero s = s
 state_unless (suc status) s = no_state
+
+-- as C has it: a state beside its status, in refused calls that of zeros
+abbrev pub opened_of : Result State Refusal → Opened
+opened_of (Ok s) = record { state = s; status = 0 }
+opened_of (Err r) = record { state = no_state; status = number r }
 
 -- what open hands back
 pub record Begun (op : Operation) (r : Opened) (n : Given) (l : Lent) (p : List ℕ) : Type 0 where

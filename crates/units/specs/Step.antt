@@ -53,9 +53,19 @@ abbrev pub step_of : Operation → Lent → World State → World State
 step_of op l x = record { state = state_of op l x.state x.plane; plane = plane_of op l x.state x.plane }
 
 -- WHAT THE PRIVATE FUNCTIONS LEAVE
--- the step, whatever the operation's number in the state
-pub record OneRow (op : Operation) (g : Given) (done : ℕ) (l : Lent) (p classes : List ℕ) (old : Ring) (q classes' : List ℕ) (new : Ring) : Type 0 where
-  pub is : (o : ℕ) → record { state = state_at o g (done + 1) classes' new; plane = q } ≡ step_of op l (record { state = state_at o g done classes old; plane = p })
+-- the padded rows, their indices and the next slot of a state
+abbrev pub ring_of : State → Ring
+ring_of s = ring s.rows s.indices s.next
+
+-- what only opening and going on may change
+pub record Stays (s s' : State) : Type 0 where
+  pub op : s'.op ≡ s.op
+  pub given : s'.given ≡ s.given
+  pub done : s'.done ≡ s.done
+
+-- the step
+pub record OneRow (op : Operation) (l : Lent) (s : State) (p : List ℕ) (s' : State) (q : List ℕ) : Type 0 where
+  pub is : record { state = s'; plane = q } ≡ step_of op l (record { state = s; plane = p })
   pub size : length q ≡ length p
 
 -- rows, one after another: i steps lead from a state and a plane to these

@@ -10,22 +10,18 @@ pub fn mask_of_row(skip: &[u16], y: usize) -> u16
     requires { y < length skip.now }
     ensures { result ≡ mask_at skip.now y }
 {
-    let at = y / SIDE * SIDE;
-    skip[at]
+    skip[y / SIDE * SIDE]
 }
 
-// The pieces of n rows from row k on.
+// The pieces of n rows from row k on: the loop is the definition's count of one row more.
 pub fn pieces_of_rows(skip: &[u16], bw: usize, k: usize, n: usize) -> usize
     requires { (bw ≤ block_column_limit) × (k + n ≤ height_limit) × (k + n ≤ length skip.now) }
     ensures { result ≡ pieces_of skip.now bw k n }
 {
     let mut pieces = 0;
-    let mut i = 0;
-    while i < n {
+    for i in 0..n {
         let mask = mask_of_row(skip, k + i);
-        let row = blocks::pieces_of_row(mask, bw);
-        pieces += row.pieces;
-        i += 1;
+        pieces += blocks::pieces_of_row(mask, bw).unwrap();
     }
     pieces
 }

@@ -1,6 +1,5 @@
 -- Demand 2 from demand 3, at the history of one advance.
 use mathlib.Core.Path.{◌≡◌, refl, sym, ◌∙◌}
-use mathlib.Core.Logic.{◌≢◌}
 use mathlib.Core.List.{List}
 use Prim.Native.Nat.{ℕ, ◌+◌, ◌-◌, min}
 use native.Mathlib.Omega.{arith}
@@ -57,14 +56,3 @@ whole-at op n l p holds o begun z a q is r rs rp =
     let f : open_status op n l p ≡ 0 = sym begun.status ∙ z in
     let s : o.state ≡ open_state op n l p = begun.state ∙ rw f in
     whole_of op n l p f (holds f) r q (rs ∙ rw s at is.status) (rp ∙ rw s at is.pieces) (rw s at is.plane)
-
--- a unit that opening declined
-pub whole-none : (op : Operation) (n : Given) (l : Lent) (p : List ℕ) → (o : Handed) → Begun op o n l p → o.status ≢ 0 →
-    (r : Restored) (q : List ℕ) → r.status ≡ o.status → r.pieces ≡ 0 → q ≡ p → Whole op r n l p q
-whole-none op n l p o begun z r q rs rp e =
-    record {
-      status = rs ∙ begun.status;
-      pieces = λ f. absurd (z (begun.status ∙ f));
-      plane = λ f. absurd (z (begun.status ∙ f));
-      none = λ f. (rp, e);
-    }

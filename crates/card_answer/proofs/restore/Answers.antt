@@ -1,18 +1,18 @@
-use mathlib.Core.Path.{ap}
-use mathlib.Core.List.{◌++◌}
-use Prim.Native.Nat.{◌*◌}
-use lib.ListN.{drop}
-use lib.Seq.{length-take-le}
-use Rattle.card_answer.proofs.Restorations.{restored-pieces, restored-plane}
+use Rattle.std.proofs.Common.{◌∙◌, rules, arith}
+use Rattle.laws.proofs.Answers.{served}
+use Rattle.card_answer.proofs.Restorations.{accepted, restored-plane}
 use Rattle.card_answer.proofs.restore.Goals as goal
 
-pub returns-clause-value : goal.returns-clause-value
-returns-clause-value c =
-    let s = length-take-le (c.args.w * c.args.h) c.args.p.now c.requires.w_value.2 in
-    restored-pieces c.args.w c.args.h _ _ _ _ _ c.requires.w_value.0 c.requires.w_value.1 c.requires.filter_len.0 c.requires.filter_len.1 s c.ns_wiener_single_y_8bpc-r.ensures
+pub unwrap-requires : goal.unwrap-requires
+unwrap-requires c =
+    let d = c.default.ensures.1.1 in
+    let e = d.1.1.1.1.1.1 in
+    let o = rw (d.0, d.1.1.0, d.1.1.1.0, d.1.1.1.1.0, d.1.1.1.1.1.0, e.0, e.1.0, e.1.1.0, e.1.1.1.0, e.1.1.1.1.0, e.1.1.1.1.1) at c.restore.ensures in
+    served _ (o.status ∙ accepted c.args.card.now.w c.args.card.now.h _ _ _ c.requires.0 c.requires.1 (search rules) c.told-skip (omega (arith, c.requires.2)))
 
-pub returns-clause-p_after : goal.returns-clause-p_after
-returns-clause-p_after c =
-    let s = length-take-le (c.args.w * c.args.h) c.args.p.now c.requires.w_value.2 in
-    ap (λ l. l ++ drop (c.args.w * c.args.h) c.args.p.now)
-    (restored-plane c.args.w c.args.h _ _ _ _ _ c.requires.w_value.0 c.requires.w_value.1 c.requires.filter_len.0 c.requires.filter_len.1 s c.ns_wiener_single_y_8bpc-r.ensures)
+pub returns-clause-plane_after : goal.returns-clause-plane_after
+returns-clause-plane_after c =
+    let d = c.default.ensures.1.1 in
+    let e = d.1.1.1.1.1.1 in
+    let o = rw (d.0, d.1.1.0, d.1.1.1.0, d.1.1.1.1.0, d.1.1.1.1.1.0, e.0, e.1.0, e.1.1.0, e.1.1.1.0, e.1.1.1.1.0, e.1.1.1.1.1) at c.restore.ensures in
+    restored-plane c.args.card.now.w c.args.card.now.h _ _ _ _ _ c.requires.0 c.requires.1 (search rules) c.told-skip c.requires.2 o

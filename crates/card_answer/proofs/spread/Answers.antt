@@ -1,7 +1,8 @@
-use Rattle.card_answer.proofs.Texts.{stored_more}
-use native.Mathlib.Omega.{arith}
+use Rattle.std.proofs.Common.{rules}
+use Rattle.definition.specs.Card.{skip_entry}
+use Rattle.definition.specs.Limits.{height_limit}
+use Rattle.card_answer.proofs.Made.{made}
 use Rattle.card_answer.proofs.spread.Goals as goal
 
-pub loop-i-preserved : goal.loop-i-preserved
-loop-i-preserved c =
-    (omega (arith, c.loop-i-test.true), stored_more _ _ c.loop-i.i _ _ c.loop-i.invariant.1 c.skip_at.ensures)
+pub returns : goal.returns
+returns c = made _ (skip_entry c.args.skip.now) _ (λ i r q h. search rules) height_limit _ c.from_fn.ensures.items

@@ -1,18 +1,12 @@
-use mathlib.Core.Path.{◌≡◌, sym, ◌∙◌}
-use native.Mathlib.Omega.{arith}
-use Rattle.definition.specs.Card.{input_at}
-use Rattle.card_reader.proofs.Places.{word-step, word_stop, word_end}
+use Rattle.std.proofs.Common.{sym, ◌∙◌}
+use Rattle.card_reader.proofs.Words.{word-step, word_stop, word_end}
 use Rattle.card_reader.proofs.read_word.Goals as goal
 
-pub returns-then-input_at-word : goal.returns-then-input_at-word
-returns-then-input_at-word c =
-    let i : input_at c.args.s.now c.loop-i.next ≡ _ = sym c.input_at.ensures in
-    sym (c.loop-i.invariant.1 ∙ word_stop c.args.s.now c.args.word.now c.loop-i.next c.loop-i.i c.loop-i-test.true (rw i c.if-input_at-word.true))
+pub returns-in_err-next : goal.returns-in_err-next
+returns-in_err-next c = rw c.from_residual.ensures (sym (c.loop-byte.invariant ∙ word_stop _ _ _ _ c.loop-byte-test.true (sym c.in_err-next.ensures)))
 
-pub loop-i-preserved : goal.loop-i-preserved
-loop-i-preserved c =
-    (omega arith, c.loop-i.invariant.1 ∙ word-step c.args.s.now c.args.word.now c.loop-i.next c.loop-i.i c.loop-i-test.true (sym c.input_at.ensures ∙ c.if-input_at-word.false))
+pub loop-byte-preserved : goal.loop-byte-preserved
+loop-byte-preserved c = c.loop-byte.invariant ∙ word-step _ _ _ _ c.loop-byte-test.true _ (sym c.in_ok-next.ensures)
 
 pub returns : goal.returns
-returns c =
-    sym (c.loop-i.invariant.1 ∙ word_end c.args.s.now c.args.word.now c.loop-i.next c.loop-i.i c.loop-i-test.false)
+returns c = sym (c.loop-byte.invariant ∙ word_end _ _ _ _ c.loop-byte-test.false)

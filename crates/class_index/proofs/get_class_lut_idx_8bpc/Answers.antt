@@ -1,33 +1,25 @@
--- `class_index::get_class_lut_idx_8bpc` meets its contract: a refused call answers 0, and else the index is taken from the features.
-use mathlib.Core.Path.{◌≡◌, sym, ap, ◌∙◌}
-use Prim.Native.Nat.{ℕ, ◌*◌}
-use lib.ListN.{length, get_or}
-use mir.Syntax.{w32}
-use mir.Val.{to_z, of_z}
-use mir.Facts.{to_z-of_z}
-use Rattle.definition.specs.ClassIndex.{skip_sum, skip_factor, index_of}
-use Rattle.definition.specs.Refusals.{class_status}
-use Rattle.definition.specs.Leaves.{feature_at, feature_sums}
-use Rattle.features.proofs.Statuses.{block_inside}
-use Rattle.laws.proofs.Passes.{answered}
-use Rattle.class_index.proofs.Statuses.{class_inside}
+-- `class_index::get_class_lut_idx_8bpc` meets its contract: the place is tested first, then the rows by the features, then the masks.
+use mathlib.Core.Path.{◌≡◌, sym, ◌∙◌}
+use mathlib.Core.Bool.{true, false}
+use lib.ListN.{length}
+use Rattle.std.proofs.Common.{Err, rules}
+use Rattle.definition.specs.Leaves.{bad_place}
+use Rattle.class_index.proofs.Statuses.{class_bad, class_outside, class_inside}
 use Rattle.class_index.proofs.get_class_lut_idx_8bpc.Goals as goal
 
-pub index_of-index-requires : goal.index_of-index-requires
-index_of-index-requires c =
-    let p = class_inside (length c.args.rows.now) c.args.indices (length c.args.noskip.now) c.args.bx c.args.by c.args.bh (sym c.class_status-status.ensures ∙ c.if-status-ne0.false) in
-    (p.place.column, p.place.line, p.place.limit, p.masks)
+pub returns-then-is_bad-clause-status_value : goal.returns-then-is_bad-clause-status_value
+returns-then-is_bad-clause-status_value c =
+    let b : bad_place c.args.place.bx c.args.place.by c.args.place.bh ≡ true = sym c.is_bad.ensures ∙ c.if-is_bad.true in
+    class_bad (length c.args.rows.now) c.args.indices.now (length c.args.noskip.now) c.args.place.bx c.args.place.by c.args.place.bh b
 
-pub returns : goal.returns
-returns c =
-    let status = class_status (length c.args.rows.now) c.args.indices (length c.args.noskip.now) c.args.bx c.args.by c.args.bh in
-    let z : status ≡ 0 = sym c.class_status-status.ensures ∙ c.if-status-ne0.false in
-    let p = class_inside (length c.args.rows.now) c.args.indices (length c.args.noskip.now) c.args.bx c.args.by c.args.bh z in
-    let q-is : to_z w32 (of_z w32 c.args.base_q) ≡ c.args.base_q = to_z-of_z c.ranges.base_q in
-    let e : c.pcw_features-f.result.status ≡ 0 = c.pcw_features-f.ensures.status_value ∙ block_inside (length c.args.rows.now) c.args.indices c.args.bx p.size p.low p.place.column in
-    let sums = c.pcw_features-f.ensures.sums_value ∙ ap (λ (n : ℕ). feature_sums n (λ d. feature_at c.args.rows.now c.args.indices d c.args.bx)) e in
-    record {
-      status_value = sym z;
-      index_value = answered status _ c.index_of-index.result z
-          (c.index_of-index.ensures ∙ (λ k. index_of (get_or (sums k) 0 0) (get_or (sums k) 1 0) (get_or (sums k) 2 0) (q-is k) (skip_factor * skip_sum c.args.noskip.now c.args.bh c.args.bx c.args.by)));
-    }
+pub returns-in_err-sums-clause-status_value : goal.returns-in_err-sums-clause-status_value
+returns-in_err-sums-clause-status_value c =
+    let b : bad_place c.args.place.bx c.args.place.by c.args.place.bh ≡ false = sym c.is_bad.ensures ∙ c.if-is_bad.false in
+    let e : c.from_residual.result ≡ Err c.in_err-sums.field-0.0 = search rules in
+    rw e (class_outside (length c.args.rows.now) c.args.indices.now (length c.args.noskip.now) c.args.place.bx c.args.place.by c.args.place.bh b c.in_err-sums.field-0.0 c.in_err-sums.ensures.status_value)
+
+pub returns-clause-status_value : goal.returns-clause-status_value
+returns-clause-status_value c =
+    let b : bad_place c.args.place.bx c.args.place.by c.args.place.bh ≡ false = sym c.is_bad.ensures ∙ c.if-is_bad.false in
+    c.class_of_features.ensures.status_value ∙
+    class_inside (length c.args.rows.now) c.args.indices.now (length c.args.noskip.now) c.args.place.bx c.args.place.by c.args.place.bh b c.in_ok-sums.ensures.status_value

@@ -1,19 +1,18 @@
--- `features::six` meets its contract: after j turns the first j of the six columns are added up.
-use mathlib.Core.Path.{◌∙◌}
+-- `features::six` meets its contract: the six columns are a part of all of them.
 use Prim.Native.Nat.{◌+◌, ◌*◌}
 use native.Mathlib.Omega.{arith}
 use lib.ListN.{get_or}
-use Rattle.laws.proofs.Sums.{sum_n-suc}
-use Rattle.features.proofs.Sums.{sum-none}
+use Rattle.features.specs.Columns.{column_limit}
+use Rattle.features.proofs.Sums.{sum-part, sum_n-le}
 use Rattle.features.proofs.six.Goals as goal
 
-pub loop-j-init : goal.loop-j-init
-loop-j-init c =
-    (omega arith, omega arith, sum-none _)
+pub total-requires : goal.total-requires
+total-requires c =
+    let part = sum-part c.args.columns.now (2 + 4 * c.args.bx) (2 + 4 * c.args.bx + 6) 6 (omega arith) (omega arith) in
+    let bound = sum_n-le 6 column_limit (λ j. get_or c.args.columns.now (2 + 4 * c.args.bx + j) 0) c.requires.1 in
+    omega arith
 
-pub loop-j-preserved : goal.loop-j-preserved
-loop-j-preserved c = (
-  omega arith,
-  omega (arith, c.requires.1 c.loop-j.j c.loop-j-test.true),
-  (λ k. c.loop-j.invariant.2 k + get_or c.args.columns.now (2 + 4 * c.args.bx + c.loop-j.j) 0) ∙ sum_n-suc (λ i. get_or c.args.columns.now (2 + 4 * c.args.bx + i) 0) c.loop-j.j,
-)
+pub returns : goal.returns
+returns c =
+    let part = sum-part c.args.columns.now (2 + 4 * c.args.bx) (2 + 4 * c.args.bx + 6) 6 (omega arith) (omega arith) in
+    omega arith

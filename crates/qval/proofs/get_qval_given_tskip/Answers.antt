@@ -1,5 +1,5 @@
 -- `qval::get_qval_given_tskip` meets its contract: each step is exact, and the last clips.
-use mathlib.Core.Path.{◌≡◌, refl, ap, ◌∙◌}
+use mathlib.Core.Path.{◌≡◌, ap, ◌∙◌}
 use Prim.Native.Nat.{ℕ, ◌+◌, ◌*◌, ◌^◌, ◌<◌, ◌≤◌}
 use native.Mathlib.Omega.{arith}
 use lib.Dec.{lit<, lit≤}
@@ -35,9 +35,12 @@ pub overflow_mul-offset : goal.overflow_mul-offset
 overflow_mul-offset c =
     times_fits most_byte (offset_sum c.args.i c.by_8192-v.result (result_fits c.by_8192-v.result c.by_8192-v.type_inv) c.by_8192-v.ensures.1) (lit< tt)
 
-pub returns : goal.returns
+pub returns-clause-status_value : goal.returns-clause-status_value
+returns-clause-status_value c = rw (lt-ltb c.args.i 4 (omega arith))
+
+pub returns-clause-term_value : goal.returns-clause-term_value
 unfolding term
-returns c =
+returns-clause-term_value c =
     let q-is : to_z w32 (of_z w32 c.args.qstep) ≡ c.args.qstep = to_z-of_z c.ranges.qstep in
     let p-is : to_z w64 (of_z w64 c.tskip_product.result) ≡ prod c.args.qstep c.args.tskip =
     to_z-of_z (result_fits c.tskip_product.result c.tskip_product.type_inv) ∙ c.tskip_product.ensures.0 ∙ (λ k. prod (q-is k) c.args.tskip)
@@ -49,9 +52,6 @@ returns c =
     in
     let b-is : c.by_8192-v.result ≡ by8192 (weighted c.args.qstep c.args.tskip c.args.i) = c.by_8192-v.ensures.0 ∙ ap by8192 w-is in
     let h = times most_byte (offset_sum c.args.i c.by_8192-v.result (result_fits c.by_8192-v.result c.by_8192-v.type_inv) c.by_8192-v.ensures.1) (lit< tt) in
-    rw (lt-ltb c.args.i 4 (omega arith)) (
-      refl,
-      to_z-of_z {w = w32} {z = c.iclip64to32-value.result} (record { sfits = c.iclip64to32-value.type_inv }) ∙
-          c.iclip64to32-value.ensures ∙
-          ap to_i32 (h.is ∙ (λ k. pos 255 *ℤ (get_or mode_offsets c.args.i (pos 0) +ℤ b-is k))),
-    )
+    to_z-of_z {w = w32} {z = c.iclip64to32.result} (record { sfits = c.iclip64to32.type_inv }) ∙
+    c.iclip64to32.ensures ∙
+    ap to_i32 (h.is ∙ (λ k. pos 255 *ℤ (get_or mode_offsets c.args.i (pos 0) +ℤ b-is k)))

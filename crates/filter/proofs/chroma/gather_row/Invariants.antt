@@ -1,6 +1,5 @@
 -- `filter::chroma::gather_row` meets its contract: after j turns the first j bytes are written.
 use mathlib.Core.Path.{◌≡◌}
-use Prim.Native.Nat.{◌-◌, ◌≤◌}
 use lib.Seq.{sets}
 use Rattle.definition.specs.Rows.{tab}
 use Rattle.filter.specs.Gathered.{every}
@@ -8,8 +7,4 @@ use Rattle.filter.proofs.chroma.gather_row.Given as goal
 
 abbrev pub invariant-loop-j : goal.invariant-loop-j
 invariant-loop-j l =
-    (l.j ≤ l.n) × (l.compact ≡ sets l.initial.compact l.to (tab l.j (every l.rows l.from l.step)))
-
-abbrev pub decreases-loop-j : goal.decreases-loop-j
-decreases-loop-j l =
-    l.n - l.j
+    l.compact ≡ sets l.initial.compact l.to (tab l.j (every l.rows l.from l.step))

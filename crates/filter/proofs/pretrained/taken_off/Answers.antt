@@ -14,7 +14,7 @@ use Rattle.filter.proofs.pretrained.taken_off.Goals as goal
 
 pub loop-k-init : goal.loop-k-init
 unfolding sum_z
-loop-k-init c = (omega arith, refl, omega arith)
+loop-k-init c = (refl, omega arith)
 
 pub loop-k-preserved : goal.loop-k-preserved
 unfolding sum_z
@@ -23,7 +23,7 @@ loop-k-preserved c =
     let fits : SFits w16 (coefficients c.args.filter.now k) = search rules in
     let number : Held w32 (cast_b w16 w32 (of_z w16 (coefficients c.args.filter.now k))) (coefficients c.args.filter.now k) 32768 = cast w32 (typed fits) (lit< tt) in
     let so-far : Held w32 c.loop-k.s-bits (sum_z k (coefficients c.args.filter.now)) (k * 32768) =
-    record { is = c.loop-k.invariant.1; bound = rw c.loop-k.invariant.1 at c.loop-k.invariant.2 } in
+    record { is = c.loop-k.invariant.0; bound = rw c.loop-k.invariant.0 at c.loop-k.invariant.1 } in
     let room : k * 32768 + 32768 < 2147483648 = omega (arith, c.loop-k-test.true) in
     let r = plus so-far number room in
-    (omega arith, rw add-one r.is, rw r.is (omega (arith, r.bound)))
+    (rw add-one r.is, rw r.is (omega (arith, r.bound)))

@@ -1,13 +1,10 @@
 -- `filter::pretrained::taken_off` meets its contract: after k turns the first k numbers are added up.
 use mathlib.Core.Path.{◌≡◌}
-use Prim.Native.Nat.{◌-◌, ◌*◌, ◌≤◌}
+use Prim.Native.Nat.{◌*◌, ◌≤◌}
 use lib.IntN.{nat_abs}
 use Rattle.definition.specs.Numbers.{sum_z}
 use Rattle.definition.specs.Leaves.{coefficients}
 use Rattle.filter.proofs.pretrained.taken_off.Given as goal
 
 abbrev pub invariant-loop-k : goal.invariant-loop-k
-invariant-loop-k l = (l.k ≤ 12) × (l.s ≡ sum_z l.k (coefficients l.filter)) × (nat_abs l.s ≤ l.k * 32768)
-
-abbrev pub decreases-loop-k : goal.decreases-loop-k
-decreases-loop-k l = 12 - l.k
+invariant-loop-k l = (l.s ≡ sum_z l.k (coefficients l.filter)) × (nat_abs l.s ≤ l.k * 32768)

@@ -1,6 +1,5 @@
 -- `filter::turns::put_eight` meets its contract: after j turns the first j samples are stored.
 use mathlib.Core.Path.{◌≡◌}
-use Prim.Native.Nat.{◌-◌, ◌≤◌}
 use lib.ListN.{length, get_or}
 use lib.Seq.{sets}
 use Rattle.definition.specs.Rows.{tab}
@@ -8,8 +7,4 @@ use Rattle.filter.proofs.turns.put_eight.Given as goal
 
 abbrev pub invariant-loop-j : goal.invariant-loop-j
 invariant-loop-j l =
-    (l.j ≤ 8) × (length l.dst ≡ length l.initial.dst) × (l.dst ≡ sets l.initial.dst l.x (tab l.j (λ i. get_or l.eight i 0)))
-
-abbrev pub decreases-loop-j : goal.decreases-loop-j
-decreases-loop-j l =
-    8 - l.j
+    (length l.dst ≡ length l.initial.dst) × (l.dst ≡ sets l.initial.dst l.x (tab l.j (λ i. get_or l.eight i 0)))

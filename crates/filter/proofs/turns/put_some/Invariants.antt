@@ -1,6 +1,6 @@
 -- `filter::turns::put_some` meets its contract: after j turns the first j samples are stored.
 use mathlib.Core.Path.{◌≡◌}
-use Prim.Native.Nat.{◌+◌, ◌-◌, ◌≤◌}
+use Prim.Native.Nat.{◌+◌}
 use lib.ListN.{length, get_or}
 use lib.Seq.{sets}
 use Rattle.definition.specs.Rows.{tab}
@@ -8,8 +8,4 @@ use Rattle.filter.proofs.turns.put_some.Given as goal
 
 abbrev pub invariant-loop-j : goal.invariant-loop-j
 invariant-loop-j l =
-    (l.j ≤ l.m) × (length l.dst ≡ length l.initial.dst) × (l.dst ≡ sets l.initial.dst l.x (tab l.j (λ i. get_or l.eight (l.skip + i) 0)))
-
-abbrev pub decreases-loop-j : goal.decreases-loop-j
-decreases-loop-j l =
-    l.m - l.j
+    (length l.dst ≡ length l.initial.dst) × (l.dst ≡ sets l.initial.dst l.x (tab l.j (λ i. get_or l.eight (l.skip + i) 0)))

@@ -1,10 +1,8 @@
--- `padding::beside::copy_into` meets its contract: each turn stores one byte more (`sets_more`).
-use Prim.Native.Nat.{◌+◌}
+-- `padding::beside::copy_into` meets its contract: a part that is written whole (`put_at`).
 use native.Mathlib.Omega.{arith}
-use lib.ListN.{get_or, length-set}
-use Rattle.laws.proofs.Lists.{sets_more}
+use Rattle.padding.proofs.Put.{put_at}
 use Rattle.padding.proofs.beside.copy_into.Goals as goal
 
-pub loop-j-preserved : goal.loop-j-preserved
-loop-j-preserved c =
-    (omega arith, simp length-set c.loop-j.invariant.1, rw c.loop-j.invariant.2 (sets_more c.loop-j.j c.args.dst.now c.args.at (λ i. get_or c.args.src.now (c.args.from + i) 0)))
+pub returns : goal.returns
+returns c =
+    rw c.copy_from_slice.ensures.after (put_at c.args.at _ c.args.dst.now c.args.src.now (omega arith) (omega arith))

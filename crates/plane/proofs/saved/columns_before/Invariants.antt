@@ -1,6 +1,6 @@
 -- `plane::saved::columns_before` meets its contract: after j turns the columns of the first j rows stand in the list.
 use mathlib.Core.Path.{◌≡◌}
-use Prim.Native.Nat.{ℕ, ◌+◌, ◌*◌, ◌-◌, ◌≤◌, ◌<◌}
+use Prim.Native.Nat.{ℕ, ◌+◌, ◌*◌, ◌-◌, ◌<◌}
 use lib.ListN.{length, get_or}
 use Rattle.definition.specs.Limits.{unit_size_limit}
 use Rattle.definition.specs.Planes.{sample_in}
@@ -8,8 +8,4 @@ use Rattle.plane.proofs.saved.columns_before.Given as goal
 
 abbrev pub invariant-loop-j : goal.invariant-loop-j
 invariant-loop-j l =
-    (l.j ≤ l.n) × (length l.r ≡ 6 * unit_size_limit) × ((i k : ℕ) → i < l.j → k < 4 → get_or l.r (6 * i + 2 + k) 0 ≡ sample_in l.w l.p (l.y + i) (l.x - 4 + k))
-
-abbrev pub decreases-loop-j : goal.decreases-loop-j
-decreases-loop-j l =
-    l.n - l.j
+    (length l.r ≡ 6 * unit_size_limit) × ((i k : ℕ) → i < l.j → k < 4 → get_or l.r (6 * i + 2 + k) 0 ≡ sample_in l.w l.p (l.y + i) (l.x - 4 + k))

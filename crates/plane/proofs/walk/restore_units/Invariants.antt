@@ -1,13 +1,8 @@
 -- `plane::walk::restore_units` meets its contract: `Reached` holds before each unit, and one unit more keeps it.
-use Prim.Native.Nat.{◌-◌, ◌≤◌}
 use lib.ListN.{length}
 use Rattle.plane.proofs.Reached.{Reached}
 use Rattle.plane.proofs.walk.restore_units.Given as goal
 
 abbrev pub invariant-loop-k : goal.invariant-loop-k
 invariant-loop-k l =
-    (l.k ≤ l.n) × Reached l.w l.h l.unit l.initial.p l.skip l.filter (length l.initial.scratch) l.k l.y l.x l.bank l.pieces l.p l.scratch l.left
-
-abbrev pub decreases-loop-k : goal.decreases-loop-k
-decreases-loop-k l =
-    l.n - l.k
+    Reached l.w l.h l.unit l.initial.p l.skip l.filter (length l.initial.scratch) l._k l.y l.x l.bank l.pieces l.p l.scratch l.left

@@ -1,22 +1,38 @@
 -- `classed::class_of` meets its contract: the call for the index is not refused, and the index is below the map's size.
-use mathlib.Core.Path.{◌≡◌, ◌∙◌, ap}
-use Prim.Native.Nat.{ℕ, ◌*◌}
-use lib.IntN.{ℤ}
-use lib.ListN.{length, get_or}
-use mir.Facts.{to_z-of_z}
-use Rattle.definition.specs.ClassIndex.{skip_sum, index_of}
-use Rattle.units.proofs.Classes.{index-low, placed_is, placed_low}
+use Rattle.std.proofs.Common.{◌≡◌, ◌∙◌, ap, ℕ, ◌*◌, rules}
+use Rattle.std.specs.Prelude.{length, get_or}
+use Rattle.definition.specs.ClassIndex.{skip_factor, skip_sum, index_of}
+use Rattle.laws.proofs.Answers.{served}
+use Rattle.units.specs.Padded.{lent_of}
+use Rattle.units.proofs.Classes.{place_serves, index-low, entry_low}
 use Rattle.units.proofs.classed.class_of.Goals as goal
 
-pub bounds-map-index : goal.bounds-map-index
-bounds-map-index c =
-    rw (c.requires.map_len.0, c.class_of_features-found.ensures.index_value) (placed_low (length c.args.noskip.now) c.args.bx c.args.by c.args.bh _ (index-low _ _ _ _ _))
+pub unwrap-index-requires : goal.unwrap-index-requires
+unwrap-index-requires c =
+    let p = c.requires.placed in
+    served c.class_of_features.result (c.class_of_features.ensures.status_value ∙ place_serves _ _ _ _ p.0 p.1 p.2 p.3)
+
+pub bounds-l-index : goal.bounds-l-index
+bounds-l-index c =
+    let l = lent_of c.args.unit.now in
+    let p = c.args.place in
+    let s = c.args.sums in
+    let i-is : c.unwrap-index.result ≡ index_of (get_or s 0 0) (get_or s 1 0) (get_or s 2 0) l.q (skip_factor * skip_sum l.noskip p.bh p.bx p.by) = search rules in
+    rw ((c.args.unit.now.inside.mapped c.requires.op_value).size, i-is) (index-low _ _ _ _ _)
+
+pub bounds-l-from : goal.bounds-l-from
+bounds-l-from c =
+    let l = lent_of c.args.unit.now in
+    let p = c.args.place in
+    let s = c.args.sums in
+    let m = c.args.unit.now.inside.mapped c.requires.op_value in
+    let i-is : c.unwrap-index.result ≡ index_of (get_or s 0 0) (get_or s 1 0) (get_or s 2 0) l.q (skip_factor * skip_sum l.noskip p.bh p.bx p.by) = search rules in
+    rw c.from.ensures (entry_low l.map (length l.subclass) c.unwrap-index.result (rw (m.size, i-is) (index-low _ _ _ _ _)) m.maps)
 
 pub returns : goal.returns
 returns c =
-    let t = 7 * skip_sum c.args.noskip.now c.args.bh c.args.bx c.args.by in
-    let i-is : c.class_of_features-found.result.index ≡ index_of c.args.vertical c.args.falling c.args.rising c.args.base_q t =
-    c.class_of_features-found.ensures.index_value ∙
-    placed_is (length c.args.noskip.now) c.args.bx c.args.by c.args.bh _ c.requires.bx_le_last_column.0 c.requires.bx_le_last_column.1 c.requires.bx_le_last_column.2 c.requires.bx_le_last_column.3 ∙
-    ap (λ (q : ℤ). index_of c.args.vertical c.args.falling c.args.rising q t) (to_z-of_z c.ranges.base_q) in
-    ap (λ (k : ℕ). get_or c.args.subclass.now k 0) (c.wide-m.ensures ∙ ap (λ (k : ℕ). get_or c.args.map.now k 0) i-is)
+    let l = lent_of c.args.unit.now in
+    let p = c.args.place in
+    let s = c.args.sums in
+    let i-is : c.unwrap-index.result ≡ index_of (get_or s 0 0) (get_or s 1 0) (get_or s 2 0) l.q (skip_factor * skip_sum l.noskip p.bh p.bx p.by) = search rules in
+    ap (λ (k : ℕ). get_or l.subclass k 0) (c.from.ensures ∙ ap (λ (k : ℕ). get_or l.map k 0) i-is)

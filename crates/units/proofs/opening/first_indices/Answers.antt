@@ -1,6 +1,6 @@
 -- `opening::first_indices` meets its contract, by the operation.
+use Rattle.std.proofs.Common.{◌∙◌, sym}
 use Rattle.model.proofs.Opening.{open_ring}
-use mathlib.Core.Path.{sym, ◌∙◌}
 use Rattle.operations.proofs.Chosen.{chroma_is}
 use Rattle.units.proofs.Openings.{first_indices}
 use Rattle.units.proofs.opening.first_indices.Goals as goal

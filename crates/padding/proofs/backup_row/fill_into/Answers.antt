@@ -1,9 +1,0 @@
--- `padding::backup_row::fill_into` meets its contract: each turn stores one byte more (`sets_more`).
-use native.Mathlib.Omega.{arith}
-use lib.ListN.{length-set}
-use Rattle.laws.proofs.Lists.{sets_more}
-use Rattle.padding.proofs.backup_row.fill_into.Goals as goal
-
-pub loop-j-preserved : goal.loop-j-preserved
-loop-j-preserved c =
-    (omega arith, simp length-set c.loop-j.invariant.1, rw c.loop-j.invariant.2 (sets_more c.loop-j.j c.args.dst.now c.args.at (λ _. c.args.v)))
