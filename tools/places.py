@@ -16,9 +16,11 @@ TWINS = [
     'luma_mixed|repeat_into', 'before_luma|behind_luma', 'iclip|iclip64to32', 'pcw_features|row_features', 'open_y|open_n|open_p|open_c',
     'advance_y|advance_n|advance_p|advance_c', 'ns_wiener_single_y_8bpc|ns_wiener_multi_8bpc|pc_wiener_8bpc|ns_wiener_single_uv_8bpc', 'run_y|run_p|run_c',
     'sixteen|thirteen|eighteen', 'put_row|put_luma_row', 'read_taps|read_groups|read_samples', 'negated|unsigned', 'signed8|signed16|signed32', 'narrow_sets|wide_sets',
-    'number|wide_number', 'fill_narrow|fill_wide',
+    'traps/number|traps/wide_number', 'fill_narrow|fill_wide',
 ]
 EXPORTS = 'gihvendu'
+# Names in capitals that are no facts.
+CASES = ('Chroma', 'Luma', 'User', 'Pretrained', 'Fn')
 
 
 def functions(text):
@@ -29,13 +31,14 @@ def functions(text):
             depth += {'(': 1, ')': -1}.get(text[i], 0)
             i += 1
         params = text[m.end():i - 1]
-        end = re.compile(r'\n *\{\n|\{\n|;').search(text, i)
+        end = re.compile(r'\n *\{\n|\{\n|;\n').search(text, i)
         yield m.group(1), params, text[i:end.start() if end else i]
 
 
 def main():
     places = collections.defaultdict(list)
     facts = collections.defaultdict(set)
+    twins = collections.defaultdict(list)
     for path in sorted(glob.glob(os.path.join(ROOT, 'crates/*/src/**/*.rt'), recursive=True)):
         crate = path.split('crates/')[1].split('/')[0]
         text = open(path).read()
@@ -51,9 +54,9 @@ def main():
                 places['1 a function that answers a status'].append(where + ' ' + name)
             if re.search(r'\bop: usize|\blist: (usize|u8)|\bshape: (usize|u64)', params):
                 places['1 a number for a kind'].append(where + ' ' + name)
-        for group in TWINS:
-            names = [n for n, _, _ in fns if re.fullmatch(group, n) and crate != EXPORTS]
-            places['2 a function of a group of twins'] += [where + ' ' + n for n in names]
+        if crate != EXPORTS:
+            for n, _, _ in fns:
+                twins[next((g for g in TWINS if re.fullmatch(g, n) or re.fullmatch(g, crate + '/' + n)), None), crate].append(where + ' ' + n)
         for m in re.finditer(r'^ *(?:let \w+ = )?(while|loop)\b[^\n]*', code, re.M):
             places['3 a while or a loop'].append(where + ' ' + m.group(0).strip())
         for m in re.finditer(r'\bas (?:%s)\b' % NUMBERS, code):
@@ -65,10 +68,13 @@ def main():
             if LONG < count and crate != EXPORTS:
                 places['5 more than seven parameters'].append('%s %s %d' % (where, name, count))
             for clause in re.findall(r'requires[^{]*\{(.*?)\}\n', clauses + '\n'):
-                for fact in re.findall(r'\b[A-Z]\w+(?=[ )}])', clause):
+                for fact in re.findall(r'\b[A-Z]\w*[a-z]\w*(?=[ )}])', clause):
                     facts[crate + ' ' + fact].add(name)
+    for (group, _), names in twins.items():
+        if group and len(names) > 1:
+            places['2 a function with a twin in its crate'] += names
     for fact, names in facts.items():
-        if len(names) >= 3 and fact.split()[1] not in ('Chroma', 'Luma', 'User', 'Pretrained', 'F'):
+        if len(names) >= 3 and fact.split()[1] not in CASES:
             places['5 a fact that three or more functions ask'].append('%s (%d)' % (fact, len(names)))
     for kind in ('Answers', 'Invariants'):
         files = glob.glob(os.path.join(ROOT, 'crates/*/proofs/**/%s.antt' % kind), recursive=True)
