@@ -35,13 +35,13 @@ Change = collections.namedtuple('Change', 'file old new')
 ROW = '        let row = self.padded_row(r);\n'
 PUT = '        rows[at..at + ROW_BYTES].copy_from_slice(&row);\n'
 FIVE = '        unit.pad_row(self.done + 9, &mut self.rows, 9);\n'
-BEFORE = '    before_into(dst, o, edge_len, left, left_off, sides.left, src[src_o]);\n'
+BEFORE = '        self.before_into(dst, left, sides.left, src[self.src_o]);\n'
 
 # `pad_row` says which row it is about to pad, and the padding that it was done
 PRINTS = [
     Change('crates/units/src/rows.rt', ROW,
            '        io::write_all(1, b"row ");\n        io::print_decimal(1, r as u64);\n        io::write_all(1, b"\\n");\n' + ROW),
-    Change('crates/padding/src/backup_row.rt', BEFORE, '    io::write_all(1, b"padded\\n");\n' + BEFORE),
+    Change('crates/padding/src/backup_row.rt', BEFORE, '        io::write_all(1, b"padded\\n");\n' + BEFORE),
 ]
 WRONG = {
     'row four padded again for the features': Change(

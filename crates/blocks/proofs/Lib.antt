@@ -1,4 +1,3 @@
 pub mod First
 pub mod Bits
-pub mod Told
 pub mod Walk

@@ -10,7 +10,8 @@ ghost use Rattle.definition.specs.Planes.{skip_numbers};
 
 use definition::{BLOCK_COLUMN_LIMIT, MASK_BITS, Refusal, SIDE};
 
-// The pieces of one row: the clear bits below bw, by the count of ones.
+// The pieces of one row: the clear bits below bw, by the count of ones. A count of bits is at most 32 and widened by `as`: the language has no `From` for it.
+#[tactic(auto, using(crate::proofs::Bits::one_shl, crate::proofs::Bits::count))]
 pub fn pieces_of_row(mask: u16, bw: usize) -> Result<usize, Refusal>
     ensures status_value { status_from result ≡ row_status bw }
     ensures pieces_value { IfOk result (λ n. n ≡ clear_below mask bw) }
@@ -22,7 +23,7 @@ pub fn pieces_of_row(mask: u16, bw: usize) -> Result<usize, Refusal>
     Ok(bw - low.count_ones() as usize)
 }
 
-// The first masked block from bx on, else bw, by trailing zeros: where a stretch of unmasked blocks ends.
+// The first masked block from bx on, else bw, by trailing zeros: where a stretch of unmasked blocks ends. Their count, at most 32, is widened by `as`.
 fn masked_end(mask: u16, bx: usize, bw: usize) -> usize
     requires { (bx ≤ bw) × (bw ≤ block_column_limit) }
     ensures { result ≡ stretch_end mask bx bw }
@@ -44,7 +45,7 @@ pub struct Stretch {
     pub end: usize,
 }
 
-// The next stretch of unmasked blocks of one class from bx on: it ends at the first masked block or other class. Start and end are bw where there is none.
+// The next stretch of unmasked blocks of one class from bx on: it ends at the first masked block or other class. Start and end are bw where there is none, as docs/SCOPE.md has it (Leaves).
 pub fn class_stretch(
     mask: u16,
     classes: &[u8; BLOCK_COLUMN_LIMIT],

@@ -9,7 +9,7 @@ use Rattle.std.specs.List.{list_all}
 use Rattle.definition.specs.Refusals.{first_pass}
 
 module _ (test : ℕ → Bool) where
-  pass_first : (n x : ℕ) (xs : List ℕ) → (test x && first_pass test n xs) ≡ first_pass test (suc n) (x ∷ xs)
+  pub pass_first : (n x : ℕ) (xs : List ℕ) → (test x && first_pass test n xs) ≡ first_pass test (suc n) (x ∷ xs)
   unfolding first_pass
   pass_first zero x xs = and-true (test x)
   pass_first (suc n) x xs =

@@ -1,4 +1,3 @@
-pub mod Made
 pub mod Texts
 pub mod Restorations
 pub mod Answered

@@ -29,6 +29,7 @@ impl Model for Answer {
     ghost invariant = { λ a. a.len ≤ text_size };
 }
 
+// Digits are put by hand, here and below: `write!` answers a Result, which no contract says to be Ok, and an answer can't fail.
 fn glyph(d: u8) -> u8
     requires { d < 16 }
     ensures { result ≡ Card·glyph d }
@@ -36,7 +37,7 @@ fn glyph(d: u8) -> u8
     if d < 10 { b'0' + d } else { b'a' + (d - 10) }
 }
 
-// The last digit of a decimal.
+// The last digit of a decimal, which fits a byte.
 fn digit(n: usize) -> u8
     ensures { result ≡ Card·glyph (n % 10) }
 {
@@ -87,8 +88,8 @@ impl Answer {
         }
     }
 
+    // A number of at most four digits.
     #[tactic(auto, using(crate::proofs::Texts::higher_short), unfolding(definition::specs::Card::decimal_text))]
-    // A number of at most four digits. `write!` answers a Result, which no contract says to be Ok; an answer can't fail.
     fn put_decimal(&mut self, n: usize)
         requires { length self.old + 4 ≤ text_size }
         ensures { self.new ≡ self.old ++ decimal_text n }
@@ -109,8 +110,8 @@ impl Answer {
         self.push(b'\n');
     }
 
-    #[tactic(auto, using(crate::proofs::Texts::line_short))]
     // The lines of status and filtered.
+    #[tactic(auto, using(crate::proofs::Texts::line_short))]
     pub(crate) fn put_head(&mut self, status: usize, pieces: usize)
         requires { length self.old + 26 ≤ text_size }
         ensures { self.new ≡ self.old ++ head_text status pieces }
@@ -141,13 +142,11 @@ impl Answer {
 
     // h rows of a plane, w samples each.
     pub(crate) fn put_rows(&mut self, w: usize, h: usize, plane: &[u8])
-        requires { (length self.old + h * row_line ≤ text_size) × (w ≤ width_limit) × (w * h ≤ length plane.now) }
+        requires { (length self.old + h * row_line ≤ text_size) × (0 < w) × (w ≤ width_limit) × (w * h ≤ length plane.now) }
         ensures { self.new ≡ self.old ++ rows_text w plane.now h }
     {
-        for y in 0..h {
-            let from = y * w;
-            let to = from + w;
-            self.put_row(&plane[from..to]);
+        for row in plane.chunks(w).take(h) {
+            self.put_row(row);
         }
     }
 }

@@ -96,9 +96,6 @@ module _ (n : ℕ) (s t : List ℕ) (alike : (i : ℕ) → i < n → input_at s 
       longer n {m = 1 + length w} {k = suc (length w)} (omega arith)
       (then_local n 1 (length w) (ended s b word) (ended t b word) _ _ (ended_local b word) (λ _. word_local w))
 
-  byte_at : (m k : ℕ) → k < m → (p : ℕ) → p + m ≤ n → input_at s (p + k) ≡ input_at t (p + k)
-  byte_at m k h p e = alike (p + k) (omega arith)
-
   decimal_reach : (x y z b c d end p : ℕ) → Reaches (p + 4) (decimal_of x y z b c d end p)
   unfolding decimal_of
   decimal_reach x y z b c d end p =

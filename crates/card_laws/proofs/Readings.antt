@@ -2,13 +2,12 @@
 use mathlib.Core.Path.{◌≡◌, refl, sym, ◌∙◌}
 use mathlib.Core.Bool.{Bool, true, false, cond, not, ◌||◌}
 use mathlib.Core.List.{List, [], ◌∷◌, ◌++◌}
-use Prim.Native.Nat.{ℕ, zero, suc, ◌+◌, ◌*◌, ◌/◌, ◌<◌}
+use Prim.Native.Nat.{ℕ, zero, suc, ◌+◌, ◌*◌, ◌/◌}
 use native.Mathlib.Nat.{zero-mul, suc-mul, mul_comm}
 use native.Mathlib.Omega.{arith}
 use borrow.Author.Tests.{not-false}
 use lib.Dec.{eqb}
 use lib.ListN.{length, length-append}
-use Rattle.laws.proofs.Ints.{never}
 use Rattle.definition.specs.Blocks.{side}
 use Rattle.definition.specs.Refusals.{sized}
 use Rattle.definition.specs.Limits.{width_limit, height_limit}
@@ -121,11 +120,6 @@ meaning_fine s = go (unit_at s 0) (unit_fine s 0)
         choose true = f
         choose false = refl
     go (refused status) f = f
-
--- no refusal has status 0
-pub refusing-above : (status : ℕ) → refusing status ≡ true → 0 < status
-refusing-above zero e = absurd (never e)
-refusing-above (suc n) e = omega arith
 
 -- THE STATUSES
 abbrev pub known : ℕ → Bool

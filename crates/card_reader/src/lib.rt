@@ -21,7 +21,7 @@ const SKIP_LINE: usize = 5 + 5 * BLOCK_ROW_LIMIT;
 // So many bytes decide what an input means: all lines of the largest unit, and one more (`enough` in crates/card_laws/proofs/Reach.antt).
 pub const INPUT_SIZE: usize = 5 + 6 + 6 + 8 + 87 + SKIP_LINE + HEIGHT_LIMIT * ROW_LINE + 1;
 
-// The unit of a card. Behind the lists of its size stand zeros.
+// The unit of a card. Behind the lists of its size stand zeros: memory is fixed, since the project uses no heap.
 #[derive(Clone, Copy)]
 pub struct Card {
     pub w: usize,
@@ -211,7 +211,7 @@ fn read_row(s: &[u8], at: usize, row: &mut [u8]) -> Option<usize>
     read_byte(s, end, b'\n')
 }
 
-// h rows of w samples, w apart.
+// h rows of w samples, w apart. `chunks_mut` was tried and not proved: it promises nothing of what the list that it cuts is left with.
 fn read_rows(s: &[u8], at: usize, w: usize, h: usize, p: &mut [u8]) -> Option<usize>
     requires { w * h ≤ length p.old }
     ensures { Joins (rows_at s.now w h at) result p.old p.new }
@@ -225,7 +225,7 @@ fn read_rows(s: &[u8], at: usize, w: usize, h: usize, p: &mut [u8]) -> Option<us
     Some(next)
 }
 
-// The lists of a unit of w by h.
+// The lists of a unit of w by h. `let else` is the form that the scope asks for at each line's answer, here and in `read_unit`.
 #[tactic(auto, unfolding(definition::specs::Card::lists_at, crate::specs::Answers::unit_of))]
 fn read_lists(s: &[u8], at: usize, w: usize, h: usize) -> Result<(Card, usize), Refusal>
     requires { (w ≤ width_limit) × (h ≤ height_limit) }

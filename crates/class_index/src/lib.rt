@@ -67,7 +67,7 @@ fn neighbour(at: usize, k: usize, last: usize) -> usize
 fn skip_share(mask: u16, column: usize, share: u32) -> u32
     ensures { (result ≡ cond (bit_set mask column) 0 share) × (result ≤ share) }
 {
-    if bounds::is_set(mask as usize, column) {
+    if bounds::is_set(usize::from(mask), column) {
         0
     } else {
         share
@@ -86,6 +86,7 @@ fn skip_row(mask: u16, bx: usize, side: u32, middle: u32) -> u32
 }
 
 // The skip sum: 16 for the block itself, 4 for a side, 1 for a corner, where the noskip bit is 0.
+#[tactic(auto, unfolding(definition::specs::ClassIndex::skip_sum, definition::specs::Numbers::sum_n))]
 fn skip_sum(noskip: &[u16], place: Place) -> u32
     requires { (place.bx ≤ last_column) × (place.by < place.bh) × (place.bh ≤ block_row_limit) × (place.bh ≤ length noskip.now) }
     ensures { (result ≡ skip_sum noskip.now place.bh place.bx place.by) × (result ≤ 36) }
@@ -98,11 +99,11 @@ fn skip_sum(noskip: &[u16], place: Place) -> u32
     skip_row(above, bx, 1, 4) + skip_row(here, bx, 4, 16) + skip_row(below, bx, 1, 4)
 }
 
-// The sums, scaled entry by entry.
+// The sums, scaled entry by entry. A product is at most 65535 * 3739 and narrowed by `as`.
 fn scaled(f: [u16; 3]) -> [i32; 3]
     ensures { (k : ℕ) → k < 3 → get_or result k (pos 0) ≡ pos (get_or f k 0 * get_or factors k 0) }
 {
-    std::array::from_fn(|k| (f[k] as u32 * PC_WIENER_NORMALIZER[k]) as i32)
+    std::array::from_fn(|k| (u32::from(f[k]) * PC_WIENER_NORMALIZER[k]) as i32)
 }
 
 // One of the four terms.
@@ -114,7 +115,7 @@ fn term(qstep: i32, tskip: u8, i: usize) -> i32
 }
 
 // The bin of the first term.
-#[tactic(auto, using(qval::proofs::Clips::bin_small))]
+#[tactic(auto, unfolding(definition::specs::ClassIndex::bin))]
 fn term_bin(qstep: i32, tskip: u8) -> u32
     ensures { (result ≡ bin (term qstep tskip 0)) × (result ≤ 7) }
 {
@@ -122,6 +123,7 @@ fn term_bin(qstep: i32, tskip: u8) -> u32
 }
 
 // The bin of a scaled feature plus its term.
+#[tactic(auto, unfolding(definition::specs::ClassIndex::bin))]
 fn feature_bin(f: i32, qstep: i32, tskip: u8, i: usize) -> u32
     requires { i < 4 }
     ensures { (result ≡ bin (to_i32 (f +ℤ term qstep tskip i))) × (result ≤ 7) }
@@ -140,8 +142,9 @@ fn lut_index(f: [i32; 3], qstep: i32, tskip: u8) -> u32
     512 * first + 64 * a + 8 * b + c
 }
 
-// The index, from the features. Inlined, the tests of the noskip bits become shifts, which take longer.
+// The index, from the features. The skip sum times 7 is at most 252 and narrowed by `as`. Inlined, the tests of the noskip bits become shifts, which take longer.
 #[inline(never)]
+#[tactic(auto, unfolding(definition::specs::ClassIndex::index_of))]
 fn index_of(sums: [u16; 3], noskip: &[u16], base_q: i32, place: Place) -> u32
     requires { (place.bx ≤ last_column) × (place.by < place.bh) × (place.bh ≤ block_row_limit) × (place.bh ≤ length noskip.now) }
     ensures { result ≡ index_of (get_or sums 0 0) (get_or sums 1 0) (get_or sums 2 0) base_q (skip_factor * skip_sum noskip.now place.bh place.bx place.by) }
@@ -151,6 +154,7 @@ fn index_of(sums: [u16; 3], noskip: &[u16], base_q: i32, place: Place) -> u32
 }
 
 // The class index of a block, 0 to 4095.
+#[tactic(auto, unfolding(definition::specs::Refusals::class_status, definition::specs::Leaves::rows_status, definition::specs::Leaves::place_status))]
 pub fn get_class_lut_idx_8bpc(
     rows: &[u8],
     indices: &[usize; INDEX_COUNT],

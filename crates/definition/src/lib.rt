@@ -39,6 +39,7 @@ pub enum Refusal {
 impl From<Refusal> for u8 {
     ghost from_gives = { λ r n. n ≡ number r };
 
+    // `as` is how an enum gives its number.
     fn from(refusal: Refusal) -> u8 {
         refusal as u8
     }

@@ -35,12 +35,44 @@ fn total(columns: &[u16]) -> u16
 }
 
 // The sum of the six columns of block bx: from one before its first column, which is byte 6 + 4 bx.
+#[tactic(auto, unfolding(definition::specs::Numbers::sum_n))]
 fn six(columns: &[u16; COLUMN_COUNT], bx: usize) -> u16
     requires { (bx ≤ last_column) × ((j : ℕ) → j < 6 → get_or columns.now (2 + 4 * bx + j) 0 ≤ column_limit) }
     ensures { result ≡ sum_n 6 (λ j. get_or columns.now (2 + 4 * bx + j) 0) }
 {
     let first = 2 + 4 * bx;
     total(&columns[first..first + 6])
+}
+
+// Where a bend's outer samples stand: the one above is taken from byte a on and the one below from byte z on, where the middle one is from byte 3 on.
+#[derive(Clone, Copy)]
+struct Direction {
+    a: usize,
+    z: usize,
+    ghost mirrored: { (a ≤ 4) × (z ≤ 4) × (a + z ≡ 6) },
+}
+
+impl Direction {
+    #[inline(always)]
+    fn vertical() -> Direction
+        ensures { result.a ≡ 3 }
+    {
+        Direction { a: 3, z: 3 }
+    }
+
+    #[inline(always)]
+    fn falling() -> Direction
+        ensures { result.a ≡ 4 }
+    {
+        Direction { a: 4, z: 2 }
+    }
+
+    #[inline(always)]
+    fn rising() -> Direction
+        ensures { result.a ≡ 2 }
+    {
+        Direction { a: 2, z: 4 }
+    }
 }
 
 // Ten rows in one array, and the indices that lead to them.
@@ -97,24 +129,24 @@ impl<'a> Rows<'a> {
         sum
     }
 
-    // The sums of columns m to n - 1, counted from byte 3 of the rows, in one direction: `up` is taken from byte a on and `down` from byte z on.
-    fn column_sums(&self, a: usize, z: usize, m: usize, n: usize) -> [u16; COLUMN_COUNT]
-        requires { (a ≤ 4) × (z ≤ 4) × (m ≤ n) × (n ≤ column_count) }
-        ensures { (k : ℕ) → m ≤ k → k < n → (get_or result k 0 ≡ column_sum self.now.bytes.now self.now.indices.now (a + k) (3 + k) (z + k)) × (get_or result k 0 ≤ column_limit) }
+    // The sums of columns m to n - 1, counted from byte 3 of the rows, in one direction.
+    fn column_sums(&self, d: Direction, m: usize, n: usize) -> [u16; COLUMN_COUNT]
+        requires { (m ≤ n) × (n ≤ column_count) }
+        ensures { (k : ℕ) → m ≤ k → k < n → (get_or result k 0 ≡ column_sum self.now.bytes.now self.now.indices.now (d.a + k) (3 + k) (d.z + k)) × (get_or result k 0 ≤ column_limit) }
     {
         let mut out = [0; COLUMN_COUNT];
         for k in m..n {
-            out[k] = self.column_sum(a + k, 3 + k, z + k);
+            out[k] = self.column_sum(d.a + k, 3 + k, d.z + k);
         }
         out
     }
 
-    // One feature of n blocks. The columns are a multiple of eight, so that none is left over.
-    fn feature_row(&self, a: usize, z: usize, n: usize) -> [u16; BLOCK_COLUMN_LIMIT]
-        requires { (a ≤ 4) × (z ≤ 4) × (a + z ≡ 6) × (n ≤ block_column_limit) }
-        ensures { result ≡ feature_row n (feature_at self.now.bytes.now self.now.indices.now (pos a -ℤ pos 3)) }
+    // One feature of n blocks. They look at 4 n + 4 columns, rounded up to a multiple of eight, so that none is left over.
+    fn feature_row(&self, d: Direction, n: usize) -> [u16; BLOCK_COLUMN_LIMIT]
+        requires { n ≤ block_column_limit }
+        ensures { result ≡ feature_row n (feature_at self.now.bytes.now self.now.indices.now (pos d.a -ℤ pos 3)) }
     {
-        let columns = self.column_sums(a, z, 0, (4 * n + 11) / 8 * 8);
+        let columns = self.column_sums(d, 0, 8 * (4 * n + 4).div_ceil(8));
         let mut out = [0; BLOCK_COLUMN_LIMIT];
         for bx in 0..n {
             out[bx] = six(&columns, bx);
@@ -123,16 +155,16 @@ impl<'a> Rows<'a> {
     }
 
     // One feature of the block in column bx. Eight columns are summed, as they are taken at a time; six are the block's.
-    fn feature(&self, a: usize, z: usize, bx: usize) -> u16
-        requires { (a ≤ 4) × (z ≤ 4) × (a + z ≡ 6) × (bx ≤ last_column) }
-        ensures { result ≡ feature_at self.now.bytes.now self.now.indices.now (pos a -ℤ pos 3) bx }
+    fn feature(&self, d: Direction, bx: usize) -> u16
+        requires { bx ≤ last_column }
+        ensures { result ≡ feature_at self.now.bytes.now self.now.indices.now (pos d.a -ℤ pos 3) bx }
     {
-        let columns = self.column_sums(a, z, 2 + 4 * bx, 10 + 4 * bx);
+        let columns = self.column_sums(d, 2 + 4 * bx, 10 + 4 * bx);
         six(&columns, bx)
     }
 }
 
-// The three features of the block in column bx: vertical, then the two diagonals.
+// The three features of the block in column bx: vertical, then the two diagonals. This and the next are each a function of docs/SCOPE.md (Leaves).
 pub fn pcw_features(
     rows: &[u8],
     indices: &[usize; INDEX_COUNT],
@@ -142,9 +174,9 @@ pub fn pcw_features(
     ensures sums_value { IfOk result (λ sums. sums ≡ feature_sums 0 (λ d. feature_at rows.now indices.now d bx)) }
 {
     let rows = Rows::lent(rows, indices, bx <= LAST_COLUMN)?;
-    let vertical = rows.feature(3, 3, bx);
-    let falling = rows.feature(4, 2, bx);
-    let rising = rows.feature(2, 4, bx);
+    let vertical = rows.feature(Direction::vertical(), bx);
+    let falling = rows.feature(Direction::falling(), bx);
+    let rising = rows.feature(Direction::rising(), bx);
     Ok([vertical, falling, rising])
 }
 
@@ -158,8 +190,8 @@ pub fn row_features(
     ensures rows_value { IfOk result (λ r. r ≡ feature_row n (feature_at rows.now indices.now (pos 0)) ∷ feature_row n (feature_at rows.now indices.now (pos 1)) ∷ feature_row n (feature_at rows.now indices.now (negsuc 0)) ∷ []) }
 {
     let rows = Rows::lent(rows, indices, n <= BLOCK_COLUMN_LIMIT)?;
-    let vertical = rows.feature_row(3, 3, n);
-    let falling = rows.feature_row(4, 2, n);
-    let rising = rows.feature_row(2, 4, n);
+    let vertical = rows.feature_row(Direction::vertical(), n);
+    let falling = rows.feature_row(Direction::falling(), n);
+    let rising = rows.feature_row(Direction::rising(), n);
     Ok([vertical, falling, rising])
 }

@@ -3,7 +3,7 @@ use mathlib.Core.Path.{◌≡◌, ap, ◌∙◌}
 use mathlib.Core.List.{List}
 use Prim.Native.Nat.{ℕ, suc, ◌+◌, ◌-◌, ◌*◌, ◌≤◌, ◌<◌}
 use native.Mathlib.Omega.{arith}
-use native.Mathlib.Nat.{mul_comm, add-mul, mul-zero, mul-le-mul, le_refl, not-suc-le-zero}
+use native.Mathlib.Nat.{mul_comm, add-mul, mul-zero, mul-le-mul, le_refl}
 use native.Mathlib.Decide.{ℕ_discrete}
 use lib.IntN.{ℤ, pos, negsuc, nat_abs, ◌+ℤ◌, ◌-ℤ◌, ◌*ℤ◌}
 use lib.ListN.{length, get_or}
@@ -39,10 +39,7 @@ eight_further : (x : ℕ) (dx : ℤ) → nat_abs dx ≤ 2 → nat_abs (pos (x + 
 eight_further x (pos b) h = omega arith
 eight_further x (negsuc b) h = rw (before_pos (x + 8 + 2) b (omega arith), before_pos (x + 2) b (omega arith)) (omega arith)
 
--- no row yet, and one more
-pub none-gathered : {rows indices : List ℕ} {first step n : ℕ} {compact : List ℕ} → Gathered rows indices first step n 0 compact
-none-gathered = record { is = λ k j hk hj. absurd (not-suc-le-zero hk) }
-
+-- one row more
 pub one-gathered : {rows indices : List ℕ} {first step n m : ℕ} {compact : List ℕ} → Gathered rows indices first step n m compact → length compact ≡ compact_size → m < 5 → n + 4 ≤ row_bytes →
     Gathered rows indices first step n (m + 1) (sets compact (compact_bytes * m + 8) (tab (n + 4) (every rows (luma_rows_at + luma_row_bytes * get_or indices (5 + m) 0 + first) step)))
 one-gathered {rows} {indices} {first} {step} {n} {m} {compact} h e l short =

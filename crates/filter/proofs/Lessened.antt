@@ -1,19 +1,14 @@
 -- A pretrained filter whose pairs are each less the largest sample: what is taken off, that times its numbers, gives the filter's own sum back.
-use mathlib.Core.Path.{◌≡◌, sym, ap, ap₂, subst, ◌∙◌}
-use mathlib.Core.List.{List}
+use mathlib.Core.Path.{◌≡◌, sym, ap, ap₂, ◌∙◌}
 use Prim.Native.Nat.{ℕ, zero, suc, ◌+◌, ◌-◌}
 use native.Mathlib.Decide.{dec_le}
 use native.Mathlib.Omega.{arith}
 use native.Mathlib.Nat.{zero-add}
 use lib.IntN.{ℤ, pos, negsuc, neg_ℤ, ◌+ℤ◌, ◌-ℤ◌, ◌*ℤ◌, suc_ℤ-*ℤ, zero-*ℤ, *ℤ_comm, *ℤ-negsuc, +ℤ_assoc, +ℤ_comm, +ℤ_idl, +ℤ-neg_ℤ_cancel}
-use mir.Syntax.{w32}
-use mir.Val.{SFits, to_z, of_z}
-use mir.Facts.{to_z-of_z}
 use Rattle.laws.proofs.Ints.{sub_pos, sub_neg}
 use Rattle.definition.specs.Numbers.{sum_z}
-use Rattle.definition.specs.Leaves.{coefficients}
 use Rattle.definition.specs.Sample.{centre, pair_of, pretrained_sum, pc_config}
-use Rattle.filter.specs.Windows.{less_tap, taken_off, TakenOff}
+use Rattle.filter.specs.Windows.{less_tap, taken_off}
 
 -- sums of integers: four of them in another order, and a natural factor of two
 pub swap_middle : (a b c d : ℤ) → (a +ℤ b) +ℤ (c +ℤ d) ≡ (a +ℤ c) +ℤ (b +ℤ d)
@@ -66,11 +61,3 @@ lessened K s c =
     ap (λ (z : ℤ). z +ℤ sum_z 12 (less_tap K s c)) (+ℤ_comm (taken_off K c) m) ∙
     +ℤ_assoc m (taken_off K c) (sum_z 12 (less_tap K s c)) ∙
     ap (λ (z : ℤ). m +ℤ z) (less_sum K 12 (λ k. pair_of s pc_config k) c)
-
--- nothing is taken off where the base is 0
-pub none_off : {filter : List ℤ} → TakenOff 0 filter (pos 0)
-none_off {filter} = record { is = sym (zero-*ℤ (sum_z 12 (coefficients filter))); bound = omega arith }
-
--- what is taken off, as the machine passes it on
-pub passed_off : {base : ℕ} {filter : List ℤ} {off : ℤ} → SFits w32 off → TakenOff base filter off → TakenOff base filter (to_z w32 (of_z w32 off))
-passed_off {base} {filter} fits h = subst (TakenOff base filter) (sym (to_z-of_z fits)) h

@@ -12,7 +12,7 @@ use Rattle.definition.specs.Refusals.{indices_up_to, rows_size}
 use Rattle.definition.specs.Rows.{row_bytes, luma_row_bytes, luma_rows_at, index_count, state_bytes}
 use Rattle.laws.proofs.Passes.{both, pass_at, inside}
 use Rattle.definition.specs.Leaves.{run_status, uv_status, window_inside}
-use Rattle.filter.specs.Windows.{own_inside, OwnInside, RowsReached, Eight}
+use Rattle.filter.specs.Windows.{own_inside, OwnInside, RowsReached}
 use Rattle.filter.specs.Gathered.{Gatherable}
 
 -- ten indices up to a limit lead to rows that lie inside, where limit + 1 rows do
@@ -97,5 +97,6 @@ uv_inside dst rows indices col0 lcol0 step n e =
     }
 
 -- any eight samples that a turn of a run may work out
-pub eight_from : {e dst : ℕ} {rows indices : List ℕ} {col0 n : ℕ} (last at : ℕ) → OwnInside e dst rows indices col0 n → min col0 last ≤ at → at ≤ last → last + 8 + e ≡ row_bytes → e ≤ last → Eight e rows indices at
-eight_from last at h l m s r = record { window = λ j k. record { inside = h.inside; left = omega (arith, h.left); right = omega arith } }
+pub eight_inside : {e dst : ℕ} {rows indices : List ℕ} {col0 n : ℕ} (last at : ℕ) → OwnInside e dst rows indices col0 n → min col0 last ≤ at → at ≤ last → last + 8 + e ≡ row_bytes → e ≤ last →
+    (e ≤ at) × (at + 8 + e ≤ row_bytes)
+eight_inside last at h l m s r = (omega (arith, h.left), omega arith)

@@ -1,40 +1,40 @@
--- Sums of taps, tap by tap in a group, and group by group.
-use mathlib.Core.Path.{◌≡◌, sym, ap, subst, ◌∙◌}
-use Prim.Native.Nat.{ℕ, ◌+◌, ◌*◌, ◌^◌, ◌≤◌, ◌<◌}
+-- Sums of taps, tap by tap in a group, and group by group. The laws hold at any width.
+use mathlib.Core.Path.{◌≡◌, refl, sym, ap, subst, ◌∙◌}
+use Prim.Native.Nat.{ℕ, zero, suc, ◌+◌, ◌^◌, ◌≤◌, ◌<◌}
 use native.Mathlib.Nat.{le_refl, mul-le-mul, add-mul}
 use native.Mathlib.Omega.{arith}
-use lib.IntN.{ℤ, pos, nat_abs, ◌+ℤ◌, ◌*ℤ◌, +ℤ_assoc, +ℤ_idl}
+use lib.IntN.{ℤ, pos, nat_abs, ◌+ℤ◌, +ℤ_assoc, +ℤ_idl, +ℤ_idr}
 use lib.Signed.{mag}
-use mir.Syntax.{Width, w16}
-use mir.Val.{to_z, of_z, hbits}
+use mir.Syntax.{w16}
+use mir.Val.{to_z, of_z}
 use mir.Facts.{to_z-of_z}
 use Rattle.definition.specs.Numbers.{sum_z}
-use Rattle.laws.proofs.Ints.{abs_add}
-use Rattle.laws.proofs.Sums.{Partial, tapped}
-use Rattle.filter.proofs.Groups.{sum_z_split}
+use Rattle.laws.proofs.Sums.{Partial, begun, tapped}
 
--- a tap more, by a call that was given what the machine holds of its difference and its number
-pub tapped_by : (w : Width) {C : ℤ} {f : ℕ → ℤ} {B D k : ℕ} {s r : ℤ} (d n : ℤ) → Partial C f B D k s → mag r < 2 ^ hbits w → mag d < 2 ^ 15 → mag n < 2 ^ 15 → d *ℤ n ≡ f k →
-    (r ≡ s +ℤ to_z w16 (of_z w16 d) *ℤ to_z w16 (of_z w16 n)) × (nat_abs r ≤ nat_abs s + D) → Partial C f B D (k + 1) (to_z w (of_z w r))
-tapped_by w {C} {f} {B} {D} {k} {s} {r} d n h ok d-ok n-ok e given =
-    let d-is = to_z-of_z {w = w16} {z = d} (record { sfits = d-ok }) in
-    let n-is = to_z-of_z {w = w16} {z = n} (record { sfits = n-ok }) in
-    subst (Partial C f B D (k + 1)) (sym (to_z-of_z {w = w} {z = r} (record { sfits = ok })))
-    (tapped h (given.0 ∙ (λ i. s +ℤ d-is i *ℤ n-is i) ∙ ap (λ (z : ℤ). s +ℤ z) e) given.1)
+-- a sum of k + m numbers is the first k and then m more
+pub sum_z_split : (f : ℕ → ℤ) (k m : ℕ) → sum_z (k + m) f ≡ sum_z k f +ℤ sum_z m (λ j. f (k + j))
+unfolding sum_z
+sum_z_split f k zero = let e : k + 0 ≡ k = omega arith in rw e (sym (+ℤ_idr (sum_z k f)))
+sum_z_split f k (suc m) =
+    let e : k + suc m ≡ suc (k + m) = omega arith in
+    rw e (ap (λ (z : ℤ). z +ℤ f (k + m)) (sum_z_split f k m) ∙ +ℤ_assoc (sum_z k f) (sum_z m (λ j. f (k + j))) (f (k + m)))
 
--- a group of m taps more, from tap k on
-pub grouped : {C : ℤ} {f : ℕ → ℤ} {B D E k m : ℕ} {s t r : ℤ} → Partial C f B D k s → Partial (pos 0) (λ j. f (k + j)) 0 E m t → E ≤ D → (r ≡ s +ℤ t) × (nat_abs r ≤ nat_abs s + nat_abs t) →
+-- the sum of a group, as the machine passes it on in 16 bits
+pub passed_narrow : {C : ℤ} {f : ℕ → ℤ} {B D k : ℕ} {s : ℤ} → mag s < 2 ^ 15 → Partial C f B D k s → Partial C f B D k (to_z w16 (of_z w16 s))
+passed_narrow {C} {f} {B} {D} {k} ok h = subst (Partial C f B D k) (sym (to_z-of_z {w = w16} (record { sfits = ok }))) h
+
+-- a group's first tap
+pub group_begun : (f : ℕ → ℤ) {D : ℕ} {t : ℤ} (k : ℕ) → t ≡ pos 0 +ℤ f k → nat_abs t ≤ D → mag t < 2 ^ 15 → Partial (pos 0) (λ j. f (k + j)) 0 D 1 (to_z w16 (of_z w16 t))
+group_begun f {t = t} k e b ok =
+    let first : k ≡ k + 0 = omega arith in
+    passed_narrow ok (tapped {f = λ j. f (k + j)} (begun refl (omega arith)) (rw first at e) (omega (arith, b)))
+
+-- a group of m taps after k taps: the sum of both is that of k + m
+pub joined : {C : ℤ} {f : ℕ → ℤ} {B D E k m : ℕ} {s t r : ℤ} → Partial C f B D k s → Partial (pos 0) (λ j. f (k + j)) 0 E m t → E ≤ D → (r ≡ s +ℤ t) × (nat_abs r ≤ nat_abs s + nat_abs t) →
     Partial C f B D (k + m) r
-grouped {C} {f} {D = D} {k = k} {m = m} {s = s} {t = t} h g l given =
+joined {C} {f} {D = D} {k = k} {m = m} {s = s} {t = t} h g l given =
     let t-sum : t ≡ sum_z m (λ j. f (k + j)) = g.is ∙ +ℤ_idl (sum_z m (λ j. f (k + j))) in
     record {
       is = given.0 ∙ (λ i. h.is i +ℤ t-sum i) ∙ +ℤ_assoc C (sum_z k f) (sum_z m (λ j. f (k + j))) ∙ ap (λ (z : ℤ). C +ℤ z) (sym (sum_z_split f k m));
       bound = omega (arith, given.1, h.bound, g.bound, mul-le-mul (le_refl m) l, add-mul k m D);
     }
-
--- two sums, of which the second starts from 0
-pub both_sums : {C : ℤ} {f h : ℕ → ℤ} {A B D E k m : ℕ} {s t : ℤ} → Partial C f B D k s → Partial (pos 0) h A E m t → s +ℤ t ≡ C +ℤ sum_z k f +ℤ sum_z m h
-both_sums {h = h} {m = m} p q = let t-sum = q.is ∙ +ℤ_idl (sum_z m h) in λ i. p.is i +ℤ t-sum i
-
-pub both_below : {C : ℤ} {f h : ℕ → ℤ} {A B D E k m L : ℕ} {s t : ℤ} → Partial C f B D k s → Partial (pos 0) h A E m t → B + k * D + (A + m * E) < L → nat_abs (s +ℤ t) < L
-both_below {s = s} {t = t} p q l = omega (arith, abs_add s t, p.bound, q.bound, l)

@@ -4,7 +4,6 @@ use Rattle.definition.specs.Numbers.{sum_z}
 use Rattle.definition.specs.Rows.{row_bytes, index_count}
 use Rattle.definition.specs.Refusals.{indices_up_to}
 use Rattle.definition.specs.Sample.{limit8, pair_of, pc_config}
-use Rattle.laws.proofs.Sums.{Partial}
 use Rattle.definition.specs.Leaves.{coefficients, window_inside}
 
 -- the tests that the runs share, against rows of `size` bytes to which indices up to a limit lead
@@ -15,31 +14,17 @@ own_inside dst rows indices col0 n size limit e = leb n dst && leb size rows && 
 pub record RowsReached (first size : ℕ) (rows indices : List ℕ) : Type 0 where
   pub inside : (j : ℕ) → j < index_count → first + size * get_or indices j 0 + size ≤ length rows
 
--- a tap of at most 4 rows and columns that leads neither out of the ten indices nor out of the row
-pub record Spot (size mid col : ℕ) (dy dx : ℤ) : Type 0 where
-  pub row_up : nat_abs dy ≤ mid
-  pub row_down : mid + nat_abs dy < index_count
-  pub col_left : nat_abs dx ≤ col
-  pub col_right : col + nat_abs dx < size
-  pub small : size < 2 ^ 16
-
 -- twice the largest sample
 abbrev pub pair_limit : ℕ
 pair_limit = 2 * limit8
 
--- how far from 0 the sums of luma and chroma start at the most, and how far a tap leads them
+-- how far from 0 the sums of luma and chroma start at the most
 abbrev pub start_limit : ℕ
 start_limit = 128 * limit8
 
-abbrev pub ns_tap_limit : ℕ
-ns_tap_limit = 2 * pair_limit * 2 ^ 7
-
--- the same of a pretrained set: its centre, a tap, and what twelve of them take off
+-- the same of a pretrained set: its centre, and what twelve taps take off
 abbrev pub centre_limit : ℕ
 centre_limit = limit8 * 2 ^ 15
-
-abbrev pub less_tap_limit : ℕ
-less_tap_limit = (pair_limit + limit8) * 2 ^ 15
 
 abbrev pub taken_off_limit : ℕ
 taken_off_limit = limit8 * (12 * 2 ^ 15)
@@ -48,26 +33,6 @@ taken_off_limit = limit8 * (12 * 2 ^ 15)
 pub record PairAt (s : ℤ → ℤ → ℕ) (dy dx : ℤ) (r : ℕ) : Type 0 where
   pub is : r ≡ s dy dx + s (neg_ℤ dy) (neg_ℤ dx)
   pub bound : r ≤ pair_limit
-
--- the pair of tap k of a table
-pub record TapPair (s : ℤ → ℤ → ℕ) (taps : List (List ℤ)) (k r : ℕ) : Type 0 where
-  pub is : r ≡ pair_of s taps k
-  pub bound : r ≤ pair_limit
-
--- the bytes from `reach` before byte col to `reach` behind it lie in each of those rows
-pub record Window (first size reach : ℕ) (rows indices : List ℕ) (col : ℕ) : Type 0 where
-  pub inside : RowsReached first size rows indices
-  pub left : reach ≤ col
-  pub right : col + reach < size
-
--- a sum that is taken tap by tap, with what its taps ask
-pub record Summed (asked : Type 0) (C : ℤ) (f : ℕ → ℤ) (B D k : ℕ) (s : ℤ) : Type 0 where
-  pub window : asked
-  pub sum : Partial C f B D k s
-
--- eight windows side by side
-pub record Eight (reach : ℕ) (rows indices : List ℕ) (at : ℕ) : Type 0 where
-  pub window : (j : ℕ) → j < 8 → Window 0 row_bytes reach rows indices (at + j)
 
 -- a run of n samples from byte col0 on over its own rows, with `reach` columns on both sides
 pub record OwnInside (reach dst : ℕ) (rows indices : List ℕ) (col0 n : ℕ) : Type 0 where

@@ -3,14 +3,15 @@ ghost use Rattle.std.specs.Prelude.{true, ◌≡◌, ℕ, ◌+◌, ◌-◌, ◌*
 ghost use Rattle.std.proofs.lemmas.List.Edits.{sets};
 ghost use Rattle.definition.specs.Answers.{status_from};
 ghost use Rattle.definition.specs.Rows.{tab, chroma_flat, row_bytes};
-ghost use Rattle.definition.specs.Sample.{dy_of, dx_of, centre, pair_of, ns_config_uv, ns_config_uv_from_y};
+ghost use Rattle.definition.specs.Sample.{dy_of, dx_of, centre, ns_config_uv_from_y};
 ghost use Rattle.definition.specs.Leaves.{coefficients, uv_status};
-ghost use Rattle.filter.specs.Windows.{Window, Eight, TapPair};
 ghost use Rattle.filter.specs.Groups.{Small};
 ghost use Rattle.filter.specs.Gathered.{every, Gatherable, Gathered, compact_at, compact_sum, compact_sample, compact_size, compact_end};
 
-use crate::sums::{Taps, six, twelve};
-use crate::taps::{centre_at, moved, ns_start, outside_unless, own_inside, pair_at, round_clip};
+use crate::around::{Around, Eight};
+use crate::pairs::PairTaps;
+use crate::sums::{Summed, Taps};
+use crate::taps::{moved, outside_unless, own_inside, round_clip};
 use crate::turns::eight;
 use definition::{INDEX_COUNT, LUMA_ROW_BYTES, LUMA_ROWS_AT, ROW_BYTES, Refusal, STATE_BYTES};
 use tables::{WIENER_NS_CONFIG_UV, WIENER_NS_CONFIG_UV_FROM_Y};
@@ -24,56 +25,6 @@ const COMPACT_SIZE: usize = 5 * COMPACT_BYTES;
 const LAST_GATHERED: usize = COMPACT_BYTES - 8 - 4;
 
 pub const LAST_CHROMA_EIGHT: usize = ROW_BYTES - 8 - 2;
-
-// The pair of tap k.
-fn uv_pair(rows: &[u8], indices: &[usize; INDEX_COUNT], col: usize, k: usize) -> u32
-    requires window { Window 0 row_bytes 2 rows.now indices.now col }
-    requires k_bound { k < 6 }
-    ensures { TapPair (chroma_flat rows.now indices.now col) ns_config_uv k result }
-{
-    let t = WIENER_NS_CONFIG_UV[k];
-    pair_at(rows, indices, 2, col, t[0], t[1])
-}
-
-// Its own taps around one sample.
-#[derive(Clone, Copy)]
-struct OwnTaps<'a> {
-    rows: &'a [u8],
-    indices: &'a [usize; INDEX_COUNT],
-    col: usize,
-    filter: &'a [i8; 18],
-    ghost window: { Window 0 row_bytes 2 rows.now indices.now col },
-}
-
-impl<'a> Taps for OwnTaps<'a> {
-    ghost count = { λ s. 6 };
-
-    ghost is_small = { λ s. Small 18 s.filter.now };
-
-    ghost first = { λ s. pos (128 * centre (chroma_flat s.rows.now s.indices.now s.col)) };
-
-    ghost samples = { λ s. pair_of (chroma_flat s.rows.now s.indices.now s.col) ns_config_uv };
-
-    ghost base = { λ s. 2 * centre (chroma_flat s.rows.now s.indices.now s.col) };
-
-    ghost numbers = { λ s. coefficients s.filter.now };
-
-    fn start(&self) -> i32 {
-        ns_start(self.rows, self.indices, 2, self.col)
-    }
-
-    fn sample(&self, k: usize) -> u32 {
-        uv_pair(self.rows, self.indices, self.col, k)
-    }
-
-    fn base(&self) -> u32 {
-        2 * centre_at(self.rows, self.indices, 2, self.col) as u32
-    }
-
-    fn number(&self, k: usize) -> i16 {
-        self.filter[k] as i16
-    }
-}
 
 // One of the five rows of luma, at chroma's resolution: every `step`-th byte from `from` on, n of them, to byte `to` on.
 fn gather_row(
@@ -123,15 +74,6 @@ fn compact_at(compact: &[u8; COMPACT_SIZE], x: usize, dy: i8, dx: i8) -> u8
     compact[COMPACT_BYTES * row + moved(x + 2, dx)]
 }
 
-// The luma of tap k.
-fn uv_luma_at(compact: &[u8; COMPACT_SIZE], x: usize, k: usize) -> u8
-    requires { (x < compact_end) × (k < 12) }
-    ensures { result ≡ compact_at compact.now x (dy_of ns_config_uv_from_y k) (dx_of ns_config_uv_from_y k) }
-{
-    let t = WIENER_NS_CONFIG_UV_FROM_Y[k];
-    compact_at(compact, x, t[0], t[1])
-}
-
 // Its taps of luma, whose sum is added to that of its own: it starts from nothing.
 #[derive(Clone, Copy)]
 struct FromLumaTaps<'a> {
@@ -143,8 +85,6 @@ struct FromLumaTaps<'a> {
 
 impl<'a> Taps for FromLumaTaps<'a> {
     ghost count = { λ s. 12 };
-
-    ghost is_small = { λ s. Small 18 s.filter.now };
 
     ghost first = { λ s. pos 0 };
 
@@ -159,75 +99,60 @@ impl<'a> Taps for FromLumaTaps<'a> {
     }
 
     fn sample(&self, k: usize) -> u32 {
-        uv_luma_at(self.compact, self.x, k) as u32
+        let t = WIENER_NS_CONFIG_UV_FROM_Y[k];
+        u32::from(compact_at(self.compact, self.x, t[0], t[1]))
     }
 
     fn base(&self) -> u32 {
-        compact_at(self.compact, self.x, 0, 0) as u32
+        u32::from(compact_at(self.compact, self.x, 0, 0))
     }
 
     fn number(&self, k: usize) -> i16 {
         let at = 6 + k;
-        self.filter[at] as i16
+        i16::from(self.filter[at])
     }
 }
 
 // The sum that one chroma sample rounds.
-fn uv_sum<const SMALL: bool>(
-    rows: &[u8],
-    indices: &[usize; INDEX_COUNT],
-    col: usize,
+#[inline(always)]
+fn uv_sum<const BITS: usize>(
+    around: Around<'_, 2>,
     compact: &[u8; COMPACT_SIZE],
     x: usize,
     filter: &[i8; 18],
 ) -> i32
-    requires window { Window 0 row_bytes 2 rows.now indices.now col }
     requires x_bound { x < compact_end }
-    requires small { SMALL ≡ true → Small 18 filter.now }
-    ensures value { result ≡ compact_sum (chroma_flat rows.now indices.now col) (compact_at compact.now x) (coefficients filter.now) }
+    requires small { BITS ≡ 16 → Small 18 filter.now }
+    ensures value { result ≡ compact_sum (chroma_flat around.entry.rows.bytes.now around.entry.rows.indices.now around.entry.col) (compact_at compact.now x) (coefficients filter.now) }
     ensures bound { nat_abs result < 2 ^ 30 }
 {
-    let own = six::<SMALL, OwnTaps<'_>>(&OwnTaps {
-        rows,
-        indices,
-        col,
+    let own = PairTaps::<'_, 2, 6, 18> {
+        around,
         filter,
-    });
-    let of_luma = twelve::<SMALL, FromLumaTaps<'_>>(&FromLumaTaps { compact, x, filter });
-    own + of_luma
+        table: WIENER_NS_CONFIG_UV,
+    };
+    let of_luma = FromLumaTaps { compact, x, filter };
+    let own_sum = Summed::<'_, BITS, PairTaps<'_, 2, 6, 18>> { taps: &own }.six();
+    own_sum + Summed::<'_, BITS, FromLumaTaps<'_>> { taps: &of_luma }.twelve()
 }
 
-// Eight chroma samples from byte `at` on, whose luma is gathered from sample x - 8 on.
+// Eight chroma samples, whose luma is gathered from sample x - 8 on; `small` is written out by the caller.
+#[inline(always)]
 pub fn uv_eight(
-    rows: &[u8],
-    indices: &[usize; INDEX_COUNT],
-    at: usize,
+    samples: Eight<'_, 2>,
     compact: &[u8; COMPACT_SIZE],
     x: usize,
     filter: &[i8; 18],
+    small: bool,
 ) -> [u8; 8]
-    requires eight { Eight 2 rows.now indices.now at }
     requires x_bound { x + 8 ≤ compact_end }
-    ensures { (j : ℕ) → j < 8 → get_or result j 0 ≡ compact_sample rows.now indices.now compact.now filter.now (at + j) (x + j) }
+    requires small { small ≡ true → Small 18 filter.now }
+    ensures { (j : ℕ) → j < 8 → get_or result j 0 ≡ compact_sample samples.entry.rows.bytes.now samples.entry.rows.indices.now compact.now filter.now (samples.entry.at + j) (x + j) }
 {
-    eight(|j| round_clip(uv_sum::<false>(rows, indices, at + j, compact, x + j, filter)))
-}
-
-// The same eight samples as `uv_eight`, by a small filter. They are not one function of SMALL: a closure in a function with a const parameter got no proof.
-pub fn uv_narrow_eight(
-    rows: &[u8],
-    indices: &[usize; INDEX_COUNT],
-    at: usize,
-    compact: &[u8; COMPACT_SIZE],
-    x: usize,
-    filter: &[i8; 18],
-) -> [u8; 8]
-    requires eight { Eight 2 rows.now indices.now at }
-    requires x_bound { x + 8 ≤ compact_end }
-    requires small { Small 18 filter.now }
-    ensures { (j : ℕ) → j < 8 → get_or result j 0 ≡ compact_sample rows.now indices.now compact.now filter.now (at + j) (x + j) }
-{
-    eight(|j| round_clip(uv_sum::<true>(rows, indices, at + j, compact, x + j, filter)))
+    if small {
+        return eight(|j| round_clip(uv_sum::<16>(samples.around(j), compact, x + j, filter)));
+    }
+    eight(|j| round_clip(uv_sum::<32>(samples.around(j), compact, x + j, filter)))
 }
 
 // Where the luma of the eight from byte `at` on is gathered, in a run from byte col0 on: the least shows the compiler that none of it leaves its row.

@@ -28,7 +28,7 @@ pub fn with_group(s: i32, t: i16) -> i32
     requires { nat_abs s < 2 ^ 30 }
     ensures { (result ≡ s +ℤ t) × (nat_abs result ≤ nat_abs s + nat_abs t) }
 {
-    s + t as i32
+    s + i32::from(t)
 }
 
 // Whether a number is too large for a group.
@@ -44,7 +44,7 @@ fn is_small(filter: &[i8]) -> bool
 {
     let mut small = true;
     for c in filter {
-        if is_large(*c as i16) {
+        if is_large(i16::from(*c)) {
             small = false;
         }
     }

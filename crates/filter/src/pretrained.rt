@@ -1,163 +1,145 @@
 // Pretrained sets: 12 pairs, and the centre with a number of its own.
 ghost use Rattle.std.specs.Prelude.{true, ◌≡◌, ℕ, ◌+◌, ◌^◌, ◌<◌, ◌≤◌, pos, nat_abs, ◌+ℤ◌, ◌*ℤ◌, get_or};
-ghost use Rattle.definition.specs.Rows.{luma_flat, row_bytes};
+ghost use Rattle.definition.specs.Rows.{luma_flat};
 ghost use Rattle.definition.specs.Sample.{limit8, centre, pair_of, pretrained_sum, pretrained_sample, pc_config};
 ghost use Rattle.definition.specs.Leaves.{coefficients};
-ghost use Rattle.filter.specs.Windows.{Window, Eight, TakenOff, taken_off, TapPair, centre_limit};
+ghost use Rattle.filter.specs.Windows.{TakenOff, taken_off, centre_limit};
 ghost use Rattle.filter.specs.Groups.{Small};
 
+use crate::around::{Around, Eight};
 use crate::narrow::is_large;
-use crate::sums::{Taps, twelve};
-use crate::taps::{LIMIT, centre_at, pair_at, round_clip};
+use crate::sums::{Summed, Taps};
+use crate::taps::{LIMIT, round_clip};
 use crate::turns::eight;
-use definition::INDEX_COUNT;
 use tables::PC_WIENER_CONFIG;
-
-// The pair of tap k.
-fn pc_pair(rows: &[u8], indices: &[usize; INDEX_COUNT], col: usize, k: usize) -> u32
-    requires window { Window 0 row_bytes 4 rows.now indices.now col }
-    requires k_bound { k < 12 }
-    ensures { TapPair (luma_flat rows.now indices.now col) pc_config k result }
-{
-    let t = PC_WIENER_CONFIG[k];
-    pair_at(rows, indices, 4, col, t[0], t[1])
-}
 
 // LIMIT times the numbers of a pretrained set but its last. A tap multiplies a pair less LIMIT, which is of either sign: then the compiler multiplies 16 by 16 bits.
 pub fn taken_off(filter: &[i16; 13]) -> i32
     ensures { TakenOff limit8 filter.now result }
 {
     let mut s: i32 = 0;
-    for k in 0..12 {
-        s += filter[k] as i32;
+    for c in &filter[..12] {
+        s += i32::from(*c);
     }
     LIMIT * s
 }
 
 // The centre times the last number of a set.
-fn pc_centre(rows: &[u8], indices: &[usize; INDEX_COUNT], col: usize, last: i16) -> i32
-    requires { Window 0 row_bytes 4 rows.now indices.now col }
-    ensures { (result ≡ pos (centre (luma_flat rows.now indices.now col)) *ℤ last) × (nat_abs result ≤ centre_limit) }
+#[inline(always)]
+fn pc_centre(around: &Around<'_, 4>, last: i16) -> i32
+    ensures { (result ≡ pos (centre (luma_flat around.now.rows.bytes.now around.now.rows.indices.now around.now.col)) *ℤ last) × (nat_abs result ≤ centre_limit) }
 {
-    let m = centre_at(rows, indices, 4, col);
-    m as i32 * last as i32
+    let m = around.centre();
+    i32::from(m) * i32::from(last)
 }
 
-// The taps around one sample, whose pairs are less a base: LIMIT or, in groups, nothing. The last number of the set stands beside it.
+// A set, whose pairs are less a base: LIMIT or, in groups, nothing.
 #[derive(Clone, Copy)]
-struct PretrainedTaps<'a> {
-    rows: &'a [u8],
-    indices: &'a [usize; INDEX_COUNT],
-    col: usize,
+struct Set<'a> {
     filter: &'a [i16; 13],
-    last: i16,
     base: u32,
     off: i32,
-    ghost window: { Window 0 row_bytes 4 rows.now indices.now col },
-    ghost last_is: { last ≡ coefficients filter.now 12 },
     ghost taken_off: { (base ≤ limit8) × TakenOff base filter.now off },
+}
+
+impl<'a> Set<'a> {
+    // The sum that one sample rounds; the last number of the set stands beside it.
+    #[inline(always)]
+    fn sum<const BITS: usize>(&self, around: Around<'a, 4>, last: i16) -> i32
+        requires small { BITS ≡ 16 → Small 12 self.now.filter.now }
+        requires last_value { last ≡ coefficients self.now.filter.now 12 }
+        ensures value { result ≡ pretrained_sum (luma_flat around.entry.rows.bytes.now around.entry.rows.indices.now around.entry.col) (coefficients self.now.filter.now) }
+        ensures bound { nat_abs result < 2 ^ 30 }
+    {
+        let taps = PretrainedTaps {
+            set: *self,
+            around,
+            last,
+        };
+        Summed::<'_, BITS, PretrainedTaps<'a>> { taps: &taps }.twelve()
+    }
+}
+
+// Its taps around one sample.
+#[derive(Clone, Copy)]
+struct PretrainedTaps<'a> {
+    set: Set<'a>,
+    around: Around<'a, 4>,
+    last: i16,
+    ghost last_is: { last ≡ coefficients set.filter.now 12 },
 }
 
 impl<'a> Taps for PretrainedTaps<'a> {
     ghost count = { λ s. 12 };
 
-    ghost is_small = { λ s. Small 12 s.filter.now };
+    ghost first = { λ s. taken_off s.set.base (coefficients s.set.filter.now) +ℤ pos (centre (luma_flat s.around.rows.bytes.now s.around.rows.indices.now s.around.col)) *ℤ coefficients s.set.filter.now 12 };
 
-    ghost first = { λ s. taken_off s.base (coefficients s.filter.now) +ℤ pos (centre (luma_flat s.rows.now s.indices.now s.col)) *ℤ coefficients s.filter.now 12 };
+    ghost samples = { λ s. pair_of (luma_flat s.around.rows.bytes.now s.around.rows.indices.now s.around.col) pc_config };
 
-    ghost samples = { λ s. pair_of (luma_flat s.rows.now s.indices.now s.col) pc_config };
+    ghost base = { λ s. s.set.base };
 
-    ghost base = { λ s. s.base };
-
-    ghost numbers = { λ s. coefficients s.filter.now };
+    ghost numbers = { λ s. coefficients s.set.filter.now };
 
     fn start(&self) -> i32 {
-        self.off + pc_centre(self.rows, self.indices, self.col, self.last)
+        self.set.off + pc_centre(&self.around, self.last)
     }
 
     fn sample(&self, k: usize) -> u32 {
-        pc_pair(self.rows, self.indices, self.col, k)
+        let t = PC_WIENER_CONFIG[k];
+        self.around.pair_at(t[0], t[1])
     }
 
     fn base(&self) -> u32 {
-        self.base
+        self.set.base
     }
 
     fn number(&self, k: usize) -> i16 {
-        self.filter[k]
+        self.set.filter[k]
     }
 }
 
-// The sum that one sample of a pretrained filter rounds.
-fn pc_sum<const SMALL: bool>(
-    rows: &[u8],
-    indices: &[usize; INDEX_COUNT],
-    col: usize,
-    filter: &[i16; 13],
-    last: i16,
-    base: u32,
-    off: i32,
-) -> i32
-    requires window { Window 0 row_bytes 4 rows.now indices.now col }
-    requires small { SMALL ≡ true → Small 12 filter.now }
-    requires last_value { last ≡ coefficients filter.now 12 }
-    requires taken_off { (base ≤ limit8) × TakenOff base filter.now off }
-    ensures value { result ≡ pretrained_sum (luma_flat rows.now indices.now col) (coefficients filter.now) }
-    ensures bound { nat_abs result < 2 ^ 30 }
-{
-    let taps = PretrainedTaps {
-        rows,
-        indices,
-        col,
-        filter,
-        last,
-        base,
-        off,
-    };
-    twelve::<SMALL, PretrainedTaps<'_>>(&taps)
-}
-
 // Whether no number of a set's taps is too large for a group. Those that are are counted: of a flag the compiler makes two loops of the run, and units of
-// short runs get slower.
+// short runs get slower. One test for this and `is_small`, handed the numbers by a closure, was tried: runs of 16 samples by the other filters took up to
+// 6 % more.
 pub fn is_small_set(filter: &[i16; 13]) -> bool
     ensures { result ≡ true → Small 12 filter.now }
 {
     let mut found: u8 = 0;
-    for k in 0..12 {
-        if is_large(filter[k]) {
+    for c in &filter[..12] {
+        if is_large(*c) {
             found += 1;
         }
     }
     found == 0
 }
 
-// Eight samples, by the set or, where its taps are small, by its copy.
+// Eight samples, by the set or, where its taps are small, by its copy. What this and the other filters share is `eight`: handed the two ways to work a sample out as
+// closures, one function would only say `if small` for them.
 pub fn pc_eight_by(
-    rows: &[u8],
-    indices: &[usize; INDEX_COUNT],
-    at: usize,
+    samples: Eight<'_, 4>,
     filter: &[i16; 13],
     off: i32,
     copy: &[i16; 13],
     small: bool,
 ) -> [u8; 8]
-    requires eight { Eight 4 rows.now indices.now at }
     requires taken_off { TakenOff limit8 filter.now off }
     requires copy_value { (copy.now ≡ filter.now) × (small ≡ true → Small 12 copy.now) }
-    ensures { (j : ℕ) → j < 8 → get_or result j 0 ≡ pretrained_sample limit8 (luma_flat rows.now indices.now (at + j)) (coefficients filter.now) }
+    ensures { (j : ℕ) → j < 8 → get_or result j 0 ≡ pretrained_sample limit8 (luma_flat samples.entry.rows.bytes.now samples.entry.rows.indices.now (samples.entry.at + j)) (coefficients filter.now) }
 {
     if small {
+        let set = Set {
+            filter: copy,
+            base: 0,
+            off: 0,
+        };
         // The last number stands in eight places: so the compiler multiplies eight centres at once.
         let last = [copy[12]; 8];
-        return eight(|j| round_clip(pc_sum::<true>(rows, indices, at + j, copy, last[j], 0, 0)));
+        return eight(|j| round_clip(set.sum::<16>(samples.around(j), last[j])));
     }
-    eight(|j| round_clip(pc_sum::<false>(
-        rows,
-        indices,
-        at + j,
+    let set = Set {
         filter,
-        filter[12],
-        LIMIT as u32,
+        base: LIMIT as u32,
         off,
-    )))
+    };
+    eight(|j| round_clip(set.sum::<32>(samples.around(j), filter[12])))
 }

@@ -1,11 +1,11 @@
 // What the three runs share: whether they stay inside, where a tap leads, what it adds, and the rounding.
-ghost use Rattle.std.specs.Prelude.{◌≡◌, ◌+◌, ◌*◌, ◌^◌, ◌<◌, ◌≤◌, pos, nat_abs, ◌+ℤ◌, ◌-ℤ◌, ◌*ℤ◌};
+ghost use Rattle.std.specs.Prelude.{◌≡◌, ◌+◌, ◌^◌, ◌<◌, ◌≤◌, pos, nat_abs, ◌+ℤ◌};
 ghost use Rattle.definition.specs.Answers.{status_from};
 ghost use Rattle.definition.specs.Numbers.{clip_to};
-ghost use Rattle.definition.specs.Rows.{outside_unless, flat_around, row_bytes, index_count};
-ghost use Rattle.definition.specs.Sample.{limit8, rounded, centre};
+ghost use Rattle.definition.specs.Rows.{outside_unless};
+ghost use Rattle.definition.specs.Sample.{limit8, rounded};
 ghost use Rattle.definition.specs.Leaves.{run_status};
-ghost use Rattle.filter.specs.Windows.{own_inside, RowsReached, Spot, PairAt, start_limit};
+ghost use Rattle.filter.specs.Windows.{own_inside};
 
 use definition::{INDEX_COUNT, ROW_BYTES, ROWS_SIZE, Refusal, SAMPLE_LIMIT};
 
@@ -29,7 +29,7 @@ pub fn round_clip(s: i32) -> u8
 }
 
 // Whether the n samples from byte col0 on lie in the destination, and with e columns on both sides in the rows: `size` bytes, to
-// which indices up to a limit lead.
+// which indices up to a limit lead. Two tests of fewer parameters were tried, what is lent and the columns: chroma units of 4 by 4 took 4 % more.
 pub fn own_inside(
     dst: usize,
     rows: usize,
@@ -77,60 +77,5 @@ pub fn moved(at: usize, d: i8) -> usize
     requires { (nat_abs d ≤ at) × (at < 2 ^ 20) }
     ensures { result ≡ nat_abs (pos at +ℤ d) }
 {
-    (at as i32 + d as i32) as usize
-}
-
-// The byte dy rows and dx columns from byte col of the row that index mid leads to.
-fn byte_at(
-    rows: &[u8],
-    indices: &[usize; INDEX_COUNT],
-    first: usize,
-    size: usize,
-    mid: usize,
-    col: usize,
-    dy: i8,
-    dx: i8,
-) -> u8
-    requires rows_reached { RowsReached first size rows.now indices.now }
-    requires spot { Spot size mid col dy dx }
-    ensures { result ≡ flat_around first size mid rows.now indices.now col dy dx }
-{
-    let row = indices[moved(mid, dy)];
-    rows[first + size * row + moved(col, dx)]
-}
-
-// The byte col of the row that index mid leads to: what the taps are taken around.
-pub fn centre_at(rows: &[u8], indices: &[usize; INDEX_COUNT], mid: usize, col: usize) -> u8
-    requires rows_reached { RowsReached 0 row_bytes rows.now indices.now }
-    requires mid_lt_index_count { (mid < index_count) × (col < row_bytes) }
-    ensures { result ≡ centre (flat_around 0 row_bytes mid rows.now indices.now col) }
-{
-    byte_at(rows, indices, 0, ROW_BYTES, mid, col, 0, 0)
-}
-
-// The sum of the bytes at (+dy, +dx) and at (-dy, -dx) from byte col of the row that index mid leads to.
-pub fn pair_at(
-    rows: &[u8],
-    indices: &[usize; INDEX_COUNT],
-    mid: usize,
-    col: usize,
-    dy: i8,
-    dx: i8,
-) -> u32
-    requires rows_reached { RowsReached 0 row_bytes rows.now indices.now }
-    requires spot { Spot row_bytes mid col dy dx }
-    ensures { PairAt (flat_around 0 row_bytes mid rows.now indices.now col) dy dx result }
-{
-    let a = byte_at(rows, indices, 0, ROW_BYTES, mid, col, dy, dx);
-    let b = byte_at(rows, indices, 0, ROW_BYTES, mid, col, 0 - dy, 0 - dx);
-    a as u32 + b as u32
-}
-
-// 128 times the centre, from which the luma and chroma filters start.
-pub fn ns_start(rows: &[u8], indices: &[usize; INDEX_COUNT], mid: usize, col: usize) -> i32
-    requires rows_reached { RowsReached 0 row_bytes rows.now indices.now }
-    requires mid_lt_index_count { (mid < index_count) × (col < row_bytes) }
-    ensures { (result ≡ pos (128 * centre (flat_around 0 row_bytes mid rows.now indices.now col))) × (nat_abs result ≤ start_limit) }
-{
-    128 * centre_at(rows, indices, mid, col) as i32
+    at.wrapping_add_signed(isize::from(d))
 }

@@ -4,7 +4,8 @@ ghost use Rattle.std.proofs.lemmas.List.Edits.{sets};
 ghost use Rattle.definition.specs.Rows.{tab, row_bytes};
 ghost use Rattle.filter.specs.Windows.{Turned, Gives};
 
-// Eight samples, by what works out each of them.
+// Eight samples, by what works out each of them. `std::array::from_fn` in its place was tried with one caller and is no plainer: it proves by a law (`made`
+// in `units`) that is longer than this function and what proves it.
 pub fn eight<F: Fn(usize) -> u8>(sample: F) -> [u8; 8]
     requires { (j : ℕ) → j < 8 → F.pre sample j }
     ensures { (j : ℕ) → j < 8 → F.post sample j (get_or result j 0) }
@@ -16,47 +17,31 @@ pub fn eight<F: Fn(usize) -> u8>(sample: F) -> [u8; 8]
     out
 }
 
-// All of eight samples, from byte x of the destination on: one store.
-fn put_eight(dst: &mut [u8], x: usize, eight: [u8; 8])
-    requires { x + 8 ≤ length dst.old }
-    ensures { dst.new ≡ sets dst.old x (tab 8 (λ j. get_or eight j 0)) }
-{
-    for j in 0..8 {
-        dst[x + j] = eight[j];
-    }
-}
-
-// m of them, from `skip` on.
-fn put_some(dst: &mut [u8], x: usize, eight: [u8; 8], skip: usize, m: usize)
+// m of eight samples, from `skip` on, to byte x of the destination on. All eight are one store; fewer by `copy_from_slice` would be a call in each turn, round
+// which the compiler keeps nothing in registers.
+fn put(dst: &mut [u8], x: usize, eight: [u8; 8], skip: usize, m: usize)
     requires { (x + m ≤ length dst.old) × (skip + m ≤ 8) }
     ensures { dst.new ≡ sets dst.old x (tab m (λ j. get_or eight (skip + j) 0)) }
 {
+    if m == 8 {
+        dst[x..x + 8].copy_from_slice(&eight);
+        return;
+    }
     for j in 0..m {
         dst[x + j] = eight[skip + j];
     }
 }
 
-pub fn put(dst: &mut [u8], x: usize, eight: [u8; 8], skip: usize, m: usize)
-    requires { (x + m ≤ length dst.old) × (skip + m ≤ 8) }
-    ensures { dst.new ≡ sets dst.old x (tab m (λ j. get_or eight (skip + j) 0)) }
-{
-    if m == 8 {
-        put_eight(dst, x, eight);
-    } else {
-        put_some(dst, x, eight, skip, m);
-    }
-}
-
 // One turn of a run: of the eight samples from byte `at` on it writes m, from the `skip`-th on.
 #[derive(Clone, Copy)]
-pub struct Turn {
-    pub at: usize,
-    pub skip: usize,
-    pub m: usize,
+struct Turn {
+    at: usize,
+    skip: usize,
+    m: usize,
 }
 
 // The turn that goes on with sample x of n: its eight begin with that sample, or at byte `last`, where the last eight of the rows do.
-pub fn next_turn(col0: usize, x: usize, n: usize, last: usize) -> Turn
+fn next_turn(col0: usize, x: usize, n: usize, last: usize) -> Turn
     requires { (x < n) × (col0 + n ≤ last + 8) × (last + 8 ≤ row_bytes) }
     ensures { Turned col0 x n last result.at result.skip result.m }
 {
@@ -79,6 +64,7 @@ pub fn run<F: Fn(usize) -> [u8; 8]>(
     ensures { (f : ℕ → ℕ) → Gives (F.post eight_from) (min col0 last) last (λ at. f at) → dst.new ≡ sets dst.old 0 (tab n (λ x. f (col0 + x))) }
 {
     let mut x = 0;
+    // No range: how far a turn goes is known once it is chosen.
     while x < n {
         let t = next_turn(col0, x, n, last);
         put(dst, x, eight_from(t.at), t.skip, t.m);

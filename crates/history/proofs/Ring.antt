@@ -56,12 +56,6 @@ set_low l i v b h a j =
           ]
     ]
 
--- the element put in is at most b, also past the end, where nothing is put in
-pub set_low-at : (l : List ℕ) (i v b : ℕ) → v ≤ b → get_or (set l i v) i 0 ≤ b
-set_low-at [] i v b h = zero-le
-set_low-at (x ∷ l) zero v b h = h
-set_low-at (x ∷ l) (suc i) v b h = set_low-at l i v b h
-
 pub append_low : (l r : List ℕ) (b : ℕ) → ((j : ℕ) → get_or l j 0 ≤ b) → ((j : ℕ) → get_or r j 0 ≤ b) → (j : ℕ) → get_or (l ++ r) j 0 ≤ b
 append_low [] r b f g j = g j
 append_low (x ∷ l) r b f g zero = f zero

@@ -16,13 +16,14 @@ pub fn imin(a: i32, b: i32) -> i32
     a.min(b)
 }
 
+// This and the next are each a function of the Rust.
 pub fn iclip(v: i32, least: i32, most: i32) -> i32
     ensures { result ≡ clip_z least most v }
 {
     iclip64to32(i64::from(v), least, most)
 }
 
-// The Rust's clamp panics where least is over most; here the test against least comes first.
+// The Rust's clamp panics where least is over most; here the test against least comes first. The last arm is narrowed by `as`: v lies between two i32.
 pub fn iclip64to32(v: i64, least: i32, most: i32) -> i32
     ensures { result ≡ clip_z least most v }
 {
@@ -39,5 +40,5 @@ pub fn iclip64to32(v: i64, least: i32, most: i32) -> i32
 pub fn saturating_add(a: i32, b: i32) -> i32
     ensures { result ≡ to_i32 (a +ℤ b) }
 {
-    iclip64to32(a as i64 + b as i64, i32::MIN, i32::MAX)
+    iclip64to32(i64::from(a) + i64::from(b), i32::MIN, i32::MAX)
 }

@@ -1,5 +1,5 @@
 -- Answers and their statuses: a reason to refuse has no number 0, so a status of 0 is a value's.
-use Rattle.std.specs.Prelude.{◌≡◌, refl, ℕ, Result, Ok, Err, IsOk}
+use Rattle.std.specs.Prelude.{◌≡◌, refl, Result, Ok, Err, IsOk}
 use Rattle.std.proofs.Common.{arith}
 use Rattle.definition.specs.declared.Refusal.{Refusal}
 use Rattle.definition.specs.declared.Refusal.TheVariants.{Width, Height, Stride, Sampling, Outside, Left, Top, Bottom, Masks, Filters, Luma, Block, State, Card, Plane, Scratch}

@@ -40,8 +40,3 @@ passes ((true ⇒ zero) ∷ cs) ds n e = absurd n
 passes ((true ⇒ suc k) ∷ cs) ds n e = absurd (omega arith)
 passes ((false ⇒ zero) ∷ cs) ds n e = absurd n
 passes ((false ⇒ suc k) ∷ cs) ds n e = passes cs ds n e
-
-pub front : (cs ds : List Check) → lowest (cs ++ ds) ≡ 0 → lowest cs ≡ 0
-front [] ds e = refl
-front ((true ⇒ n) ∷ cs) ds e = e
-front ((false ⇒ n) ∷ cs) ds e = front cs ds e

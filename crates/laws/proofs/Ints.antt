@@ -1,5 +1,4 @@
 -- Bounds on integers, by their absolute value, and what the machine reads back from their bits.
---
 use mathlib.Core.Path.{◌≡◌, refl, ap}
 use mathlib.Core.Bool.{Bool, true, false, not, cond}
 use Prim.Native.Nat.{ℕ, zero, suc, ◌+◌, ◌-◌, ◌*◌, ◌^◌, ◌<◌, ◌≤◌, suc-le-suc}
@@ -75,14 +74,3 @@ sub_neg a (suc b) h = sub_cases a (suc b) (λ (z : ℤ). z ≡ negsuc (suc b - s
 -- n places before a, where there are so many
 pub before_pos : (a n : ℕ) → n < a → pos a +ℤ negsuc n ≡ pos (a - suc n)
 before_pos a n h = sub_cases a (suc n) (λ (z : ℤ). z ≡ pos (a - suc n)) (λ l. absurd (not-le_of_lt l h)) (λ l. refl)
-
--- | u - m + d | is what the larger of u + d and m is over the other
-pub distance : (u m d : ℕ) → nat_abs (pos u -ℤ pos m +ℤ pos d) ≡ (u + d - m) + (m - (u + d))
-distance u zero d = omega arith
-distance u (suc m) d =
-    sub_cases u (suc m) (λ (z : ℤ). nat_abs (z +ℤ pos d) ≡ (u + d - suc m) + (suc m - (u + d)))
-    (λ h.
-    sub_cases d (suc (suc m - suc u)) (λ (z : ℤ). nat_abs z ≡ (u + d - suc m) + (suc m - (u + d)))
-    (λ k. omega arith)
-    (λ k. omega arith))
-    (λ h. omega arith)

@@ -6,7 +6,6 @@ pub mod Lists
 pub mod Tables
 pub mod Agree
 pub mod Passes
-pub mod Tests
 pub mod Checks
 pub mod Inside
 pub mod Answers

@@ -1,11 +1,10 @@
--- What tests that hold or fail together say; and tests over the first n of a list (`first_pass`): a loop that stops at the first that fails, and what a passed test says of each.
+-- What tests that hold or fail together say; and tests over the first n of a list (`first_pass`): what a passed test says of each.
 use mathlib.Core.Path.{◌≡◌, refl, sym}
-use mathlib.Core.Bool.{Bool, true, false, cond, ◌&&◌, ◌||◌, and-false}
+use mathlib.Core.Bool.{Bool, true, false, cond, ◌&&◌, ◌||◌}
 use mathlib.Core.List.{List}
-use Prim.Native.Nat.{ℕ, zero, suc, ◌+◌, ◌<◌}
+use Prim.Native.Nat.{ℕ, zero, suc, ◌<◌}
 use native.Mathlib.Nat.{not-suc-le-zero}
 use native.Mathlib.Decide.{ℕ_discrete}
-use native.Mathlib.Numerals.{add-one}
 use native.Mathlib.Omega.{arith}
 use lib.ListN.{get_or}
 use Rattle.definition.specs.Rows.{outside_unless, or_zero, unless_refused}
@@ -46,23 +45,6 @@ first-clear true n rest h e = absurd (omega arith)
 first-clear false n rest h e = (refl, e)
 
 module _ (test : ℕ → Bool) (xs : List ℕ) where
-  pub pass_none : first_pass test 0 xs ≡ true
-  unfolding first_pass
-  pass_none = refl
-
-  pub pass_more : (n : ℕ) → first_pass test n xs ≡ true → test (get_or xs n 0) ≡ true → first_pass test (n + 1) xs ≡ true
-  unfolding first_pass
-  pass_more n h e = rw (add-one n, h, e)
-
-  pub pass_fails : (n k : ℕ) → k < n → test (get_or xs k 0) ≡ false → first_pass test n xs ≡ false
-  unfolding first_pass
-  pass_fails zero k h e = absurd (not-suc-le-zero h)
-  pass_fails (suc n) k h e =
-      elim (ℕ_discrete k n) [
-        | yes q ↦ rw (← q, e) (and-false (first_pass test k xs))
-        | no ne ↦ rw (pass_fails n k (omega arith) e)
-      ]
-
   pub pass_at : (n k : ℕ) → k < n → first_pass test n xs ≡ true → test (get_or xs k 0) ≡ true
   unfolding first_pass
   pass_at zero k h e = absurd (not-suc-le-zero h)

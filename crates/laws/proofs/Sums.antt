@@ -19,10 +19,6 @@ pub sum_z-suc : (C : ℤ) (f : ℕ → ℤ) (k : ℕ) → C +ℤ sum_z k f +ℤ 
 unfolding sum_z
 sum_z-suc C f k = rw (add-one k) (+ℤ_assoc C (sum_z k f) (f k))
 
-pub sum_n-suc : (f : ℕ → ℕ) (k : ℕ) → sum_n k f + f k ≡ sum_n (k + 1) f
-unfolding sum_n
-sum_n-suc f k = rw (add-one k)
-
 -- sums whose terms agree
 pub sum_n_cong : (n : ℕ) (f g : ℕ → ℕ) → ((k : ℕ) → k < n → f k ≡ g k) → sum_n n f ≡ sum_n n g
 unfolding sum_n

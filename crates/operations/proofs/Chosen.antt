@@ -25,11 +25,5 @@ module _ (P : Operation → Type 0) where
   when_classed n p Pretrained e = p
   when_classed n p Chroma e = absurd (never e)
 
-  pub unless_classed : P Luma → P Chroma → (o : Operation) → classed o ≡ false → P o
-  unless_classed y c Luma e = y
-  unless_classed y c User e = absurd (never (sym e))
-  unless_classed y c Pretrained e = absurd (never (sym e))
-  unless_classed y c Chroma e = c
-
 pub chroma_is : (o : Operation) → chromatic o ≡ true → o ≡ Chroma
 chroma_is = when_chroma (λ o. o ≡ Chroma) refl

@@ -18,7 +18,7 @@ pub fn border_of(op: Operation) -> usize
     }
 }
 
-// Its number in a state.
+// Its number in a state. `as` is how an enum gives its number.
 pub fn number_of(op: Operation) -> usize
     ensures { result ≡ number_of op }
 {

@@ -31,9 +31,9 @@ module _ (dst o src src_o w e edges : ℕ) where
         | no h ↦ rw (lt-leb n src (omega arith), and-false t)
       ]
 
-  pub own-status : backup_status dst o src src_o src src_o w e edges ≡ lpf_status dst o src src_o w e edges
+  pub own_status : backup_status dst o src src_o src src_o w e edges ≡ lpf_status dst o src src_o w e edges
   unfolding backup_status lpf_status
-  own-status = ap outside_unless (sym (own_tests (target_inside dst o w e)))
+  own_status = ap outside_unless (sym (own_tests (target_inside dst o w e)))
 
 own_row : (src : List ℕ) (src_o : ℕ) (c : ℤ) → after src src_o (row_at src (pos src_o)) c ≡ row_at src (pos src_o) c
 own_row src src_o (pos n) = refl
@@ -43,8 +43,8 @@ padded-same : (L R : Bool) (w last : ℕ) (f g : ℤ → ℕ) (c : ℤ) → ((z 
 padded-same L R w last f g (negsuc n) h = rw (h (negsuc n), h (pos 0))
 padded-same L R w last f g (pos x) h = rw (h (pos x), h (pos last))
 
-pub own-padded : (src : List ℕ) (src_o edges w e : ℕ) → padded_row edges w e (after src src_o (row_at src (pos src_o))) ≡ padded_row edges w e (row_at src (pos src_o))
-own-padded src src_o edges w e =
+pub own_padded : (src : List ℕ) (src_o edges w e : ℕ) → padded_row edges w e (after src src_o (row_at src (pos src_o))) ≡ padded_row edges w e (row_at src (pos src_o))
+own_padded src src_o edges w e =
     tab_cong (e + w + e) _ _
     (λ j h. padded-same (has_left edges) (has_right edges) w (w - 1) (after src src_o (row_at src (pos src_o))) (row_at src (pos src_o)) (pos j -ℤ pos e) (own_row src src_o))
 

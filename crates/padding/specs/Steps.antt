@@ -22,9 +22,7 @@ pub record InsideLuma (dst o src src_o stride w edges ss_hor ss_ver kind : ℕ) 
   pub row : src_o + lower_at ss_ver kind stride + (w + beside (has_right edges) 4) ≤ src
   pub before : beside (has_left edges) 4 ≤ src_o
 
--- columns of which only the even ones may be filled
-
--- what stands at column j from `at` on: f's value, or the byte that stood there
+-- what stands at column j from `at` on: f's value, or, where only even columns are filled, the byte that stood there
 abbrev pub filled : ℕ → ℕ → List ℕ → ℕ → (ℕ → ℕ) → ℕ → ℕ
 filled ss_ver kind dst at f j = cond (even_only ss_ver kind && eqb (j % 2) 1) (get_or dst (at + j) 0) (f j)
 

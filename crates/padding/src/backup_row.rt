@@ -11,84 +11,80 @@ ghost use Rattle.definition.specs.Leaves.{backup_status, padded_row};
 use crate::beside::{Sides, copy_into, fill_into};
 use definition::Refusal;
 
-// These nine numbers are the ones, and the order, of the definition and of C.
-#[tactic(auto, unfolding(definition::specs::Leaves::backup_status))]
-pub fn backup_status(
-    dst: usize,
-    o: usize,
-    src: usize,
-    src_o: usize,
-    left: usize,
-    left_off: usize,
-    w: usize,
-    edge_len: usize,
-    edges: usize,
-) -> Result<(), Refusal>
-    ensures status_value { status_from result ≡ backup_status dst o src src_o left left_off w edge_len edges }
-    ensures inside { OnOk result (RowFits dst o src src_o left left_off w edge_len edges) }
-{
-    let sides = Sides::of(edges);
-    if 1 <= w
-        && edge_len <= o
-        && bounds::room(o, w, edge_len, dst)
-        && bounds::room(src_o, w, sides.behind(edge_len), src)
-        && (!sides.left || edge_len <= left_off && left_off <= left)
+// Where a row stands in what is lent: w bytes of a list from src_o on go to o, with edge_len bytes before and behind them. Its left samples end at left_off.
+#[derive(Clone, Copy)]
+pub struct Row {
+    pub o: usize,
+    pub src_o: usize,
+    pub left_off: usize,
+    pub w: usize,
+    pub edge_len: usize,
+    pub edges: usize,
+}
+
+impl Row {
+    // Of what is lent it asks the lengths.
+    #[tactic(auto, unfolding(definition::specs::Leaves::backup_status))]
+    pub fn status(self, dst: usize, src: usize, left: usize) -> Result<(), Refusal>
+        ensures status_value { status_from result ≡ backup_status dst self.o src self.src_o left self.left_off self.w self.edge_len self.edges }
+        ensures inside { OnOk result (RowFits dst self.o src self.src_o left self.left_off self.w self.edge_len self.edges) }
     {
-        return Ok(());
+        let Row {
+            o,
+            src_o,
+            left_off,
+            w,
+            edge_len,
+            edges,
+        } = self;
+        let sides = Sides::of(edges);
+        if 1 <= w
+            && edge_len <= o
+            && bounds::room(o, w, edge_len, dst)
+            && bounds::room(src_o, w, sides.behind(edge_len), src)
+            && (!sides.left || edge_len <= left_off && left_off <= left)
+        {
+            Ok(())
+        } else {
+            Err(Refusal::Outside)
+        }
     }
-    Err(Refusal::Outside)
-}
 
-// The e bytes before a row: those of the left list that end at left_off where they are lent, else its first one repeats.
-fn before_into(
-    dst: &mut [u8],
-    o: usize,
-    e: usize,
-    left: &[u8],
-    left_off: usize,
-    lent: bool,
-    first: u8,
-)
-    requires { (e ≤ o) × (o ≤ length dst.old) × (lent ≡ true → (e ≤ left_off) × (left_off ≤ length left.now)) }
-    ensures { dst.new ≡ sets dst.old (o - e) (tab e (λ j. cond lent (get_or left.now (left_off - e + j) 0) first)) }
-{
-    if lent {
-        copy_into(dst, o - e, &left[left_off - e..left_off]);
-    } else {
-        fill_into(dst, o - e, first, e);
+    // The bytes before the row: those of the left list where they are lent, else the row's first one repeats.
+    #[tactic(auto, using(crate::proofs::Put::part_tab))]
+    fn before_into(self, dst: &mut [u8], left: &[u8], lent: bool, first: u8)
+        requires { (self.edge_len ≤ self.o) × (self.o ≤ length dst.old) × (lent ≡ true → (self.edge_len ≤ self.left_off) × (self.left_off ≤ length left.now)) }
+        ensures { dst.new ≡ sets dst.old (self.o - self.edge_len) (tab self.edge_len (λ j. cond lent (get_or left.now (self.left_off - self.edge_len + j) 0) first)) }
+    {
+        let at = self.o - self.edge_len;
+        if lent {
+            copy_into(dst, at, &left[self.left_off - self.edge_len..self.left_off]);
+        } else {
+            fill_into(dst, at, first, self.edge_len);
+        }
     }
-}
 
-// A row and e bytes behind it: what follows it in src is copied with it, else its last byte repeats.
-fn row_into(dst: &mut [u8], o: usize, src: &[u8], src_o: usize, w: usize, e: usize, right: bool)
-    requires { (1 ≤ w) × (o + w + e ≤ length dst.old) × (src_o + w + beside right e ≤ length src.now) }
-    ensures { dst.new ≡ sets (sets dst.old o (tab w (λ j. get_or src.now (src_o + j) 0))) (o + w) (tab e (λ j. cond right (get_or src.now (src_o + w + j) 0) (get_or src.now (src_o + w - 1) 0))) }
-{
-    let end = src_o + w;
-    if right {
-        copy_into(dst, o, &src[src_o..end + e]);
-    } else {
-        copy_into(dst, o, &src[src_o..end]);
-        fill_into(dst, o + w, src[end - 1], e);
+    // The row and the bytes behind it: where they are lent they are copied with it, else its last byte repeats.
+    fn row_into(self, dst: &mut [u8], src: &[u8], lent: bool)
+        requires { (1 ≤ self.w) × (self.o + self.w + self.edge_len ≤ length dst.old) × (self.src_o + self.w + beside lent self.edge_len ≤ length src.now) }
+        ensures { dst.new ≡ sets (sets dst.old self.o (tab self.w (λ j. get_or src.now (self.src_o + j) 0))) (self.o + self.w) (tab self.edge_len (λ j. cond lent (get_or src.now (self.src_o + self.w + j) 0) (get_or src.now (self.src_o + self.w - 1) 0))) }
+    {
+        let end = self.src_o + self.w;
+        if lent {
+            copy_into(dst, self.o, &src[self.src_o..end + self.edge_len]);
+        } else {
+            copy_into(dst, self.o, &src[self.src_o..end]);
+            fill_into(dst, self.o + self.w, src[end - 1], self.edge_len);
+        }
     }
-}
 
-// The e bytes before the row, the row, and e behind it.
-pub fn backup_into(
-    dst: &mut [u8],
-    o: usize,
-    src: &[u8],
-    src_o: usize,
-    left: &[u8],
-    left_off: usize,
-    w: usize,
-    edge_len: usize,
-    edges: usize,
-)
-    requires { RowFits (length dst.old) o (length src.now) src_o (length left.now) left_off w edge_len edges }
-    ensures { dst.new ≡ sets dst.old (o - edge_len) (padded_row edges w edge_len (after left.now left_off (row_at src.now (pos src_o)))) }
-{
-    let sides = Sides::of(edges);
-    before_into(dst, o, edge_len, left, left_off, sides.left, src[src_o]);
-    row_into(dst, o, src, src_o, w, edge_len, sides.right);
+    // The row with what stands before and behind it.
+    pub fn pad(self, dst: &mut [u8], src: &[u8], left: &[u8])
+        requires { RowFits (length dst.old) self.o (length src.now) self.src_o (length left.now) self.left_off self.w self.edge_len self.edges }
+        ensures { dst.new ≡ sets dst.old (self.o - self.edge_len) (padded_row self.edges self.w self.edge_len (after left.now self.left_off (row_at src.now (pos self.src_o)))) }
+    {
+        let sides = Sides::of(self.edges);
+        self.before_into(dst, left, sides.left, src[self.src_o]);
+        self.row_into(dst, src, sides.right);
+    }
 }

@@ -1,5 +1,5 @@
 // A luma row of a chroma unit: its columns are mixed of one or two rows of luma, and four more stand on both sides.
-ghost use Rattle.std.specs.Prelude.{◌≡◌, true, ℕ, cond, ◌+◌, ◌-◌, ◌%◌, ◌<◌, ◌≤◌, eqb, pos, length, get_or, take, drop, IfOk, OnOk};
+ghost use Rattle.std.specs.Prelude.{◌≡◌, true, ℕ, cond, ◌+◌, ◌-◌, ◌%◌, ◌<◌, ◌≤◌, eqb, pos, length, get_or, IfOk, OnOk};
 ghost use Rattle.std.proofs.lemmas.List.Edits.{sets};
 ghost use Rattle.definition.specs.Rows.{tab};
 ghost use Rattle.definition.specs.Answers.{status_from};
@@ -11,26 +11,14 @@ ghost use Rattle.definition.specs.Leaves.{luma_byte, luma_status, lower_at, sour
 use crate::beside::{Sides, copy_into};
 use definition::Refusal;
 
-// The length of the slice that the row is a part of.
-pub fn source_len<'a>(plane: &'a [u8], saved: &'a [u8], from_saved: bool) -> usize
-    ensures { result ≡ length (source from_saved plane.now saved.now) }
+// The slice that a luma row is a part of: the luma plane, or a saved border.
+pub fn source<'a>(plane: &'a [u8], saved: &'a [u8], from_saved: bool) -> &'a [u8]
+    ensures { result.now ≡ source from_saved plane.now saved.now }
 {
-    if from_saved { saved.len() } else { plane.len() }
+    if from_saved { saved } else { plane }
 }
 
-// The part of the luma plane, or of a saved border, that one luma row is padded from.
-fn luma_row<'a>(plane: &'a [u8], saved: &'a [u8], from_saved: bool, at: usize, n: usize) -> &'a [u8]
-    requires { at + n ≤ length (source from_saved plane.now saved.now) }
-    ensures { result.now ≡ take n (drop at (source from_saved plane.now saved.now)) }
-{
-    if from_saved {
-        &saved[at..at + n]
-    } else {
-        &plane[at..at + n]
-    }
-}
-
-// How luma is taken for chroma: its subsampling, each 0 or 1, and the kind of mixing its rows, 0 to 2; numbers, as the definition has them.
+// How luma is taken for chroma: its subsampling, each 0 or 1, and the kind of mixing its rows, 0 to 2; numbers, as C hands them in: an enum would only name each once more.
 #[derive(Clone, Copy)]
 pub struct Sampling {
     ss_hor: usize,
@@ -44,7 +32,7 @@ impl Sampling {
         ensures status_value { status_from result ≡ cond (bad_sampling ss_hor ss_ver kind) 4 0 }
         ensures value { IfOk result (λ s. (s.ss_hor ≡ ss_hor) × (s.ss_ver ≡ ss_ver) × (s.kind ≡ kind)) }
     {
-        if 1 < ss_hor || ss_hor < ss_ver || 2 < kind {
+        if bounds::is_bad_sampling(ss_hor, ss_ver, kind) {
             return Err(Refusal::Sampling);
         }
         Ok(Sampling {
@@ -92,35 +80,7 @@ impl Sampling {
         if self.ss_hor == 0 { w - 1 } else { w - 2 }
     }
 
-    #[tactic(auto, unfolding(definition::specs::Leaves::luma_status))]
-    pub fn luma_status(
-        self,
-        dst: usize,
-        o: usize,
-        src: usize,
-        src_o: usize,
-        src_stride: usize,
-        w: usize,
-        edges: usize,
-    ) -> Result<(), Refusal>
-        ensures status_value { status_from result ≡ luma_status dst o src src_o src_stride w edges self.ss_hor self.ss_ver self.kind }
-        ensures inside { OnOk result (InsideLuma dst o src src_o src_stride w edges self.ss_hor self.ss_ver self.kind) }
-    {
-        let sides = Sides::of(edges);
-        let lower = self.lower_at(src_stride);
-        if 1 <= w
-            && 4 <= o
-            && bounds::room(o, w, 4, dst)
-            && self.left_over(w) == 0
-            && bounds::room(src_o, lower, w + sides.behind(4), src)
-            && sides.before(4) <= src_o
-        {
-            return Ok(());
-        }
-        Err(Refusal::Outside)
-    }
-
-    // What stands at one column, for an upper row and a lower one a stride below it.
+    // What stands at one column, for an upper row and a lower one a stride below it. The mean of four bytes is narrowed by `as`.
     fn mixed_at(self, row: &[u8], at: usize, stride: usize) -> u8
         requires stride_in_bounds { at + lower_at self.ss_ver self.kind stride < length row.now }
         requires stride_in_bounds_2 { even_only self.ss_ver self.kind ≡ true → at + 1 + stride < length row.now }
@@ -132,11 +92,11 @@ impl Sampling {
         }
         let b = row[at + stride];
         if self.kind == 1 {
-            return ((a as u16 + b as u16) / 2) as u8;
+            return a.midpoint(b);
         }
         let c = row[at + 1];
         let d = row[at + 1 + stride];
-        ((a as u16 + b as u16 + c as u16 + d as u16) / 4) as u8
+        ((u16::from(a) + u16::from(b) + u16::from(c) + u16::from(d)) / 4) as u8
     }
 
     // n columns from `at` on, or the even ones of them: column j takes f(j).
@@ -174,31 +134,71 @@ impl Sampling {
             self.fill_columns(dst, at, 4, |_| v);
         }
     }
+}
 
-    // The columns that are lent, and the borders that repeat beside them. The parameters are those of the exported function, but the sampling.
-    pub fn luma_row_into<'a>(
-        self,
-        dst: &mut [u8],
-        o: usize,
-        plane: &'a [u8],
-        saved: &'a [u8],
-        from_saved: bool,
-        src_o: usize,
-        src_stride: usize,
-        w: usize,
-        edges: usize,
-    )
-        requires { InsideLuma (length dst.old) o (length (source from_saved plane.now saved.now)) src_o src_stride w edges self.ss_hor self.ss_ver self.kind }
-        ensures { dst.new ≡ sets dst.old (o - 4) (tab (4 + w + 4) (luma_byte dst.old o (source from_saved plane.now saved.now) src_o src_stride w edges self.ss_hor self.ss_ver self.kind)) }
+// Where a luma row stands in what is lent: w columns from src_o on go to o, with four before and behind them. The lower of two rows stands src_stride behind the upper.
+#[derive(Clone, Copy)]
+pub struct LumaRow {
+    pub sampling: Sampling,
+    pub o: usize,
+    pub src_o: usize,
+    pub src_stride: usize,
+    pub w: usize,
+    pub edges: usize,
+}
+
+impl LumaRow {
+    // Of what is lent it asks the lengths.
+    #[tactic(auto, unfolding(definition::specs::Leaves::luma_status))]
+    pub fn status(self, dst: usize, src: usize) -> Result<(), Refusal>
+        ensures status_value { status_from result ≡ luma_status dst self.o src self.src_o self.src_stride self.w self.edges self.sampling.ss_hor self.sampling.ss_ver self.sampling.kind }
+        ensures inside { OnOk result (InsideLuma dst self.o src self.src_o self.src_stride self.w self.edges self.sampling.ss_hor self.sampling.ss_ver self.sampling.kind) }
     {
+        let LumaRow {
+            sampling,
+            o,
+            src_o,
+            src_stride,
+            w,
+            edges,
+        } = self;
+        let sides = Sides::of(edges);
+        let lower = sampling.lower_at(src_stride);
+        if 1 <= w
+            && 4 <= o
+            && bounds::room(o, w, 4, dst)
+            && sampling.left_over(w) == 0
+            && bounds::room(src_o, lower, w + sides.behind(4), src)
+            && sides.before(4) <= src_o
+        {
+            Ok(())
+        } else {
+            Err(Refusal::Outside)
+        }
+    }
+
+    // The columns that are lent, and the borders that repeat beside them.
+    pub fn pad(self, dst: &mut [u8], src: &[u8])
+        requires { InsideLuma (length dst.old) self.o (length src.now) self.src_o self.src_stride self.w self.edges self.sampling.ss_hor self.sampling.ss_ver self.sampling.kind }
+        ensures { dst.new ≡ sets dst.old (self.o - 4) (tab (4 + self.w + 4) (luma_byte dst.old self.o src.now self.src_o self.src_stride self.w self.edges self.sampling.ss_hor self.sampling.ss_ver self.sampling.kind)) }
+    {
+        let LumaRow {
+            sampling,
+            o,
+            src_o,
+            src_stride,
+            w,
+            edges,
+        } = self;
         let sides = Sides::of(edges);
         let left = sides.before(4);
         let right = sides.behind(4);
         let n = left + w + right;
-        let lower = self.lower_at(src_stride);
-        let row = luma_row(plane, saved, from_saved, src_o - left, n + lower);
-        self.columns_into(dst, o - left, row, lower, n);
-        self.border_into(dst, o - 4, o, left);
-        self.border_into(dst, o + w, o + self.last_sampled(w), right);
+        let lower = sampling.lower_at(src_stride);
+        let at = src_o - left;
+        let row = &src[at..at + n + lower];
+        sampling.columns_into(dst, o - left, row, lower, n);
+        sampling.border_into(dst, o - 4, o, left);
+        sampling.border_into(dst, o + w, o + sampling.last_sampled(w), right);
     }
 }

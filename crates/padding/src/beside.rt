@@ -39,6 +39,7 @@ impl Sides {
 }
 
 // The bytes of src to dst at `at`.
+#[tactic(auto, using(crate::proofs::Put::put_at))]
 pub fn copy_into(dst: &mut [u8], at: usize, src: &[u8])
     requires { at + length src.now ≤ length dst.old }
     ensures { dst.new ≡ sets dst.old at src.now }

@@ -1,5 +1,5 @@
 // looprestoration.rs: the three paddings. Each writes one padded row into the bytes that it is lent, and reads only what it is lent.
-// edges: bit 1 left, bit 2 right; other bits are not looked at.
+// edges: the bit of value 1 is left, of value 2 right; other bits are not looked at.
 #![tactic(auto)]
 
 ghost use Rattle.std.specs.Prelude.{◌≡◌, length};
@@ -10,11 +10,11 @@ mod backup_row;
 mod backup_row_luma;
 mod beside;
 
-use backup_row::{backup_into, backup_status};
-use backup_row_luma::{Sampling, source_len};
+use backup_row::Row;
+use backup_row_luma::{LumaRow, Sampling, source};
 use definition::Refusal;
 
-// The parameters of these three are the Rust's, and those of the C functions.
+// The parameters of these three are those of the C functions: the Rust's, but that a luma row's one source is either of two lists, as the scope asks.
 // A row of the unit: its left samples come from the list of them, those that end at left_off.
 pub fn backup_row_8bpc(
     dst: &mut [u8],
@@ -30,22 +30,21 @@ pub fn backup_row_8bpc(
     ensures value { status_from result ≡ backup_status (length dst.old) o (length src.now) src_o (length left.now) left_off w edge_len edges }
     ensures dst_after { dst.new ≡ backup_row dst.old o src.now src_o left.now left_off w edge_len edges }
 {
-    backup_status(
-        dst.len(),
+    let row = Row {
         o,
-        src.len(),
         src_o,
-        left.len(),
         left_off,
         w,
         edge_len,
         edges,
-    )?;
-    backup_into(dst, o, src, src_o, left, left_off, w, edge_len, edges);
+    };
+    row.status(dst.len(), src.len(), left.len())?;
+    row.pad(dst, src, left);
     Ok(())
 }
 
 // A saved row, or a row of the plane outside the unit: its left samples stand before it.
+#[tactic(auto, using(crate::proofs::Status::own_status, crate::proofs::Status::own_padded))]
 pub fn backup_row_lpf_8bpc(
     dst: &mut [u8],
     o: usize,
@@ -81,10 +80,16 @@ pub fn backup_row_luma_8bpc<'a>(
     ensures dst_after { dst.new ≡ backup_luma_row dst.old o (source from_saved plane.now saved.now) src_o src_stride w edges ss_hor ss_ver cfl_ds_flt }
 {
     let sampling = Sampling::of(ss_hor, ss_ver, cfl_ds_flt)?;
-    let len = source_len(plane, saved, from_saved);
-    sampling.luma_status(dst.len(), o, len, src_o, src_stride, w, edges)?;
-    sampling.luma_row_into(
-        dst, o, plane, saved, from_saved, src_o, src_stride, w, edges,
-    );
+    let row = LumaRow {
+        sampling,
+        o,
+        src_o,
+        src_stride,
+        w,
+        edges,
+    };
+    let src = source(plane, saved, from_saved);
+    row.status(dst.len(), src.len())?;
+    row.pad(dst, src);
     Ok(())
 }

@@ -208,6 +208,9 @@ module _ (W H u : ℕ) (p0 skip : List ℕ) (filter : List ℤ) (size : ℕ) (fi
           unit-step W H u fine.grid p0 skip filter k y x bank at n l refl refl cut saved_are masks_are refl p q here.done
           (record { size = f.size; here = f.here; other = f.other })
 
+      served_one : r.status ≡ 0
+      served_one = whole.status ∙ admitted
+
       counted_more : pieces + r.pieces ≡ plane_pieces W H u (k + 1) skip
       counted_more =
           (λ i. here.counted i + whole.pieces admitted i) ∙ sym (unit-pieces W H u fine.grid k y x bank at n l skip refl refl cut masks_are)
@@ -255,6 +258,7 @@ module _ (W H u : ℕ) (p0 skip : List ℕ) (filter : List ℤ) (size : ℕ) (fi
         (length next ≡ 6 * unit_size_limit) × (4 ≤ x + w → Before W y (x + w) h p next) →
         (length masks ≡ unit_size_limit) × ((j : ℕ) → j < h / side → get_or masks (4 * j) 0 ≡ unit_mask W skip (w / side) (y / side + j) (x / side)) →
         Whole Luma r (unit_given W H y x w h bank) (luma_lent left s' [] filter masks) p q →
+        (r.status ≡ 0) ×
         (pieces + r.pieces ≤ plane_side_limit * plane_side_limit) ×
         (x + u < W → Reached W H u p0 skip filter size (k + 1) y (x + u) bank (pieces + r.pieces) q s' next) ×
         (W ≤ x + u → Reached W H u p0 skip filter size (k + 1) (y + u) 0 (4 * W - bank) (pieces + r.pieces) q s' next)
@@ -263,6 +267,7 @@ module _ (W H u : ℕ) (p0 skip : List ℕ) (filter : List ℤ) (size : ℕ) (fi
         let li = rw (ew, eh) at listed in
         let ga = rw (ew, eh) at gathered in
         let wh = rw (ew, eh) at whole in (
+          served_one small s' next masks q r sv li ga wh,
           pieces-low small s' next masks q r sv li ga wh,
           next_reached small s' next masks q r sv li ga wh,
           row_reached small s' next masks q r sv li ga wh,

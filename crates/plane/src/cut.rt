@@ -2,25 +2,11 @@
 ghost use Rattle.std.specs.Prelude.{◌≡◌, cond, ℕ, ◌+◌, ◌*◌, ◌/◌, ◌≤◌, ◌<◌, ltb, length, get_or};
 ghost use Rattle.definition.specs.Blocks.{side};
 ghost use Rattle.definition.specs.Limits.{plane_side_limit, unit_size_limit};
-ghost use Rattle.definition.specs.Planes.{mask_bits, skip_numbers, across, unit_count};
+ghost use Rattle.definition.specs.Planes.{mask_bits, skip_numbers, unit_count};
+ghost use Rattle.plane_laws.proofs.Order.{Grid};
 ghost use Rattle.plane_laws.proofs.Cut.{Lies, unit_edges, gathered, unit_mask};
 
 use definition::{MASK_BITS, SIDE, UNIT_SIZE_LIMIT};
-
-// The units side by side on a side of the plane.
-fn units_across(n: usize, unit: usize) -> usize
-    requires { (n ≤ plane_side_limit) × (1 ≤ unit) × (unit ≤ unit_size_limit) }
-    ensures { (result ≡ across n unit) × (result ≤ n + unit) }
-{
-    (n + unit - 1) / unit
-}
-
-pub fn unit_count(w: usize, h: usize, unit: usize) -> usize
-    requires { (w ≤ plane_side_limit) × (h ≤ plane_side_limit) × (1 ≤ unit) × (unit ≤ unit_size_limit) }
-    ensures { result ≡ unit_count w h unit }
-{
-    units_across(h, unit) * units_across(w, unit)
-}
 
 // A bit of the edges where the plane goes on.
 fn bit(on: bool, n: usize) -> usize
@@ -35,51 +21,72 @@ fn gather(skip: &[u16], at: usize, from: usize, bw: usize) -> u16
     ensures { result ≡ gathered (get_or skip.now at 0) (cond (ltb mask_bits (from + bw)) (get_or skip.now (at + 1) 0) 0) from }
 {
     let low = u32::from(skip[at]);
+    // What is narrowed fits: a place is below 16, and a mask has 16 bits.
     if MASK_BITS < from + bw {
         let high = u32::from(skip[at + 1]);
-        return (((low + 65536 * high) >> from as u32) % 65536) as u16;
+        return (((low + 65536 * high) >> from) % 65536) as u16;
     }
-    (low >> from as u32) as u16
+    (low >> from) as u16
 }
 
-// A unit of uw by uh samples at (y, x) that lies in a plane of w by h.
+// A plane of w by h that is cut into units of `unit` by `unit`, with the filter and the masks of all of it.
 #[derive(Clone, Copy)]
-pub struct PlaneUnit {
+pub struct Plane<'a> {
     pub w: usize,
     pub h: usize,
-    pub y: usize,
-    pub x: usize,
-    pub uw: usize,
-    pub uh: usize,
-    pub ghost lies: { Lies w h y x uw uh },
+    pub unit: usize,
+    pub filter: &'a [i8],
+    pub skip: &'a [u16],
+    pub ghost grid: { Grid w h unit },
+    pub ghost limits: { (w ≤ plane_side_limit) × (h ≤ plane_side_limit) × (unit ≤ unit_size_limit) },
+    pub ghost taps: { length filter.now ≡ 16 },
+    pub ghost masks: { h / side * skip_numbers w ≤ length skip.now },
+    pub ghost small: { (i : ℕ) → get_or skip.now i 0 < 65536 },
 }
 
-impl PlaneUnit {
+impl<'a> Plane<'a> {
+    pub fn unit_count(&self) -> usize
+        ensures { result ≡ unit_count self.now.w self.now.h self.now.unit }
+    {
+        self.h.div_ceil(self.unit) * self.w.div_ceil(self.unit)
+    }
+}
+
+// A unit of w by h samples at (y, x), which lies in its plane.
+#[derive(Clone, Copy)]
+pub struct PlaneUnit<'a> {
+    pub plane: Plane<'a>,
+    pub y: usize,
+    pub x: usize,
+    pub w: usize,
+    pub h: usize,
+    pub ghost lies: { Lies plane.w plane.h y x w h },
+}
+
+impl<'a> PlaneUnit<'a> {
     // Left and right where columns stand beside the unit, top and bottom integrated where rows do.
     pub fn edges(&self) -> usize
-        ensures { result ≡ unit_edges self.now.w self.now.h self.now.y self.now.x self.now.uw self.now.uh }
+        ensures { let u = self.now in result ≡ unit_edges u.plane.w u.plane.h u.y u.x u.w u.h }
     {
         let left = bit(0 < self.x, 1);
-        let right = bit(self.x + self.uw < self.w, 2);
+        let right = bit(self.x + self.w < self.plane.w, 2);
         let top = bit(0 < self.y, 16);
-        let bottom = bit(self.y + self.uh < self.h, 32);
+        let bottom = bit(self.y + self.h < self.plane.h, 32);
         left + right + top + bottom
     }
 
     // Its masks: four numbers a block row, of which the first is used.
-    pub fn masks(&self, skip: &[u16]) -> [u16; UNIT_SIZE_LIMIT]
-        requires { self.now.h / side * skip_numbers self.now.w ≤ length skip.now }
-        ensures { (length result ≡ unit_size_limit) × ((j : ℕ) → j < self.now.uh / side → get_or result (4 * j) 0 ≡ unit_mask self.now.w skip.now (self.now.uw / side) (self.now.y / side + j) (self.now.x / side)) }
+    pub fn masks(&self) -> [u16; UNIT_SIZE_LIMIT]
+        ensures { let u = self.now in (length result ≡ unit_size_limit) × ((j : ℕ) → j < u.h / side → get_or result (4 * j) 0 ≡ unit_mask u.plane.w u.plane.skip.now (u.w / side) (u.y / side + j) (u.x / side)) }
     {
         let mut r = [0; UNIT_SIZE_LIMIT];
-        let numbers = blocks::skip_numbers(self.w);
+        let numbers = blocks::skip_numbers(self.plane.w);
         let by = self.y / SIDE;
         let bx = self.x / SIDE;
-        let bw = self.uw / SIDE;
-        let bh = self.uh / SIDE;
-        for j in 0..bh {
+        let bw = self.w / SIDE;
+        for j in 0..self.h / SIDE {
             let at = (by + j) * numbers + bx / MASK_BITS;
-            r[SIDE * j] = gather(skip, at, bx % MASK_BITS, bw);
+            r[SIDE * j] = gather(self.plane.skip, at, bx % MASK_BITS, bw);
         }
         r
     }

@@ -5,6 +5,7 @@
 ghost use Rattle.plane.specs.Plane.{PlaneRestored};
 ghost use Rattle.whole.specs.Whole.{restored_of};
 
+use cut::Plane;
 use definition::Refusal;
 
 mod cut;
@@ -12,6 +13,7 @@ mod saved;
 mod walk;
 
 // Does the first `count` units, or all, and answers their pieces; `scratch` is eight rows of the plane's width, of which nothing is promised but the length.
+// The eight parameters are those of the exported function.
 pub fn restore_plane(
     p: &mut [u8],
     w: usize,
@@ -25,6 +27,12 @@ pub fn restore_plane(
     ensures { PlaneRestored (restored_of result) w h unit count filter.now skip.now scratch.old scratch.new p.old p.new }
 {
     refusals::plane_status(w, h, unit, p.len(), skip.len(), filter.len(), scratch.len())?;
-    let pieces = walk::restore_units(p, w, h, unit, count, filter, skip, scratch);
-    Ok(pieces)
+    let plane = Plane {
+        w,
+        h,
+        unit,
+        filter: &*filter,
+        skip: &*skip,
+    };
+    Ok(plane.restore_units(p, count, scratch))
 }

@@ -1,10 +1,11 @@
-// What is kept of a plane before it is restored: the rows above the units, and the columns to the left of one.
-ghost use Rattle.std.specs.Prelude.{◌≡◌, cond, ◌+◌, ◌*◌, ◌-◌, ◌≤◌, length, get_or};
+// What is kept of a plane before a unit is restored: the last rows of a row of units, and the last columns of a unit.
+ghost use Rattle.std.specs.Prelude.{◌≡◌, cond, eqb, ◌+◌, ◌*◌, ◌-◌, ◌≤◌, length, get_or};
 ghost use Rattle.std.proofs.lemmas.List.Edits.{sets};
 ghost use Rattle.definition.specs.Rows.{tab};
-ghost use Rattle.definition.specs.Limits.{plane_side_limit, unit_size_limit};
+ghost use Rattle.definition.specs.Limits.{unit_size_limit};
 ghost use Rattle.plane_laws.proofs.Unit.{Before};
 
+use crate::cut::PlaneUnit;
 use definition::UNIT_SIZE_LIMIT;
 
 // The rows and columns beside a unit that its filter reads, and the bytes to a row of a left list, of which those are the last.
@@ -14,38 +15,31 @@ const LEFT_ROW: usize = 6;
 
 pub const LEFT_BYTES: usize = LEFT_ROW * UNIT_SIZE_LIMIT;
 
-// By a flag, so that the walk has one path: at the first unit of a row of units, the four rows above row y go to scratch at `to`: rows stand without gaps.
-pub fn save_rows(scratch: &mut [u8], to: usize, p: &[u8], w: usize, y: usize, first: bool)
-    requires { (1 ≤ w) × (w ≤ plane_side_limit) × (4 ≤ y) × (y ≤ plane_side_limit) × (y * w ≤ length p.now) × (to + 4 * w ≤ length scratch.old) }
-    ensures { scratch.new ≡ cond first (sets scratch.old to (tab (4 * w) (λ j. get_or p.now ((y - 4) * w + j) 0))) scratch.old }
-{
-    if first {
-        let from = (y - BORDER) * w;
-        let n = BORDER * w;
-        scratch[to..to + n].copy_from_slice(&p[from..from + n]);
+impl<'a> PlaneUnit<'a> {
+    // By the first unit of a row of units: the last four rows of that row go to scratch at `to`. Rows stand without gaps.
+    pub fn save_rows(&self, scratch: &mut [u8], to: usize, p: &[u8])
+        requires { let u = self.now in ((u.y + u.h) * u.plane.w ≤ length p.now) × (to + 4 * u.plane.w ≤ length scratch.old) }
+        ensures { let u = self.now in scratch.new ≡ cond (eqb u.x 0) (sets scratch.old to (tab (4 * u.plane.w) (λ j. get_or p.now ((u.y + u.h - 4) * u.plane.w + j) 0))) scratch.old }
+    {
+        let first = self.x == 0;
+        if first {
+            let from = (self.y + self.h - BORDER) * self.plane.w;
+            let n = BORDER * self.plane.w;
+            scratch[to..to + n].copy_from_slice(&p[from..from + n]);
+        }
     }
-}
 
-// A left list that takes the four columns before column x, of n rows from row y on: the last four of six bytes to a row. Before column 0 there are none.
-pub fn columns_before(
-    list: &[u8; LEFT_BYTES],
-    p: &[u8],
-    w: usize,
-    y: usize,
-    x: usize,
-    n: usize,
-) -> [u8; LEFT_BYTES]
-    requires { (w ≤ plane_side_limit) × (x ≤ w) × (y + n ≤ plane_side_limit) × (n ≤ unit_size_limit) × ((y + n) * w ≤ length p.now) × (length list.now ≡ 6 * unit_size_limit) }
-    ensures { (length result ≡ 6 * unit_size_limit) × (4 ≤ x → Before w y x n p.now result) }
-{
-    let mut r = *list;
-    if x < BORDER {
-        return r;
+    // A left list with the four columns before column x beside the unit's rows: the last four of six bytes to a row.
+    pub fn columns_before(&self, p: &[u8], x: usize) -> [u8; LEFT_BYTES]
+        requires { let u = self.now in (4 ≤ x) × (x ≤ u.plane.w) × ((u.y + u.h) * u.plane.w ≤ length p.now) }
+        ensures { let u = self.now in (length result ≡ 6 * unit_size_limit) × Before u.plane.w u.y x u.h p.now result }
+    {
+        let mut r = [0; LEFT_BYTES];
+        for j in 0..self.h {
+            let from = (self.y + j) * self.plane.w + (x - BORDER);
+            let at = LEFT_ROW * j + (LEFT_ROW - BORDER);
+            r[at..at + BORDER].copy_from_slice(&p[from..from + BORDER]);
+        }
+        r
     }
-    for j in 0..n {
-        let from = (y + j) * w + (x - BORDER);
-        let at = LEFT_ROW * j + (LEFT_ROW - BORDER);
-        r[at..at + BORDER].copy_from_slice(&p[from..from + BORDER]);
-    }
-    r
 }

@@ -3,7 +3,7 @@ use mathlib.Core.Path.{◌≡◌, sym, ◌∙◌, ap}
 use mathlib.Core.Bool.{cond}
 use mathlib.Core.List.{List}
 use Prim.Native.Nat.{ℕ, suc, ◌+◌, ◌-◌, ◌*◌, ◌/◌, ◌%◌, ◌^◌, ◌≤◌, ◌<◌}
-use native.Mathlib.Nat.{mul-le-mul_right, suc-mul, mul_assoc, mul_comm, pow-suc, add-mul-div_left, div-div-eq-div-mul, one-le-pow}
+use native.Mathlib.Nat.{mul_assoc, mul_comm, pow-suc, add-mul-div_left, div-div-eq-div-mul, one-le-pow}
 use native.Mathlib.Decide.{dec_lt}
 use native.Mathlib.Omega.{arith}
 use lib.Dec.{ltb, eqb}
@@ -67,14 +67,3 @@ mask_bit W skip bw by bx k small hb hk =
           gathered_high lo hi (bx % 16) k (omega arith) small (omega arith) ∙
           (ap (λ (m : ℕ). bit_set m (bx % 16 + k - 16)) e ∙ (λ i. bit_set (get_or skip (n i) 0) (b i)))
     ]
-
--- THE NUMBERS STAND IN THE LIST: block row by of H / 4, block bx of W / 4, and the second number where the mask reaches into it
-module _ (W H by bx : ℕ) (hy : by < H / 4) where
-  in_row : (n : ℕ) → n < skip_numbers W → by * skip_numbers W + n < H / 4 * skip_numbers W
-  in_row n h = omega (arith, mul-le-mul_right (skip_numbers W) hy, suc-mul by (skip_numbers W))
-
-  pub low-inside : bx < W / 4 → by * skip_numbers W + bx / 16 < H / 4 * skip_numbers W
-  low-inside h = in_row (bx / 16) (omega arith)
-
-  pub high_inside : (bw : ℕ) → bw ≤ 16 → bx + bw ≤ W / 4 → 16 < bx % 16 + bw → by * skip_numbers W + bx / 16 + 1 < H / 4 * skip_numbers W
-  high_inside bw hb h k = omega (arith, in_row (bx / 16 + 1) (omega arith))

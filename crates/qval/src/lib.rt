@@ -37,7 +37,7 @@ impl From<Result<i32, Refusal>> for Qval {
 fn tskip_product(qstep: i32, tskip: u8) -> i64
     ensures { (result ≡ prod qstep tskip) × (nat_abs result ≤ 547608330368) }
 {
-    (tskip as i64 * qstep as i64 + 128) >> 8
+    (i64::from(tskip) * i64::from(qstep) + 128) >> 8
 }
 
 // W0 32t + W1 q + W2 p
@@ -46,8 +46,8 @@ fn weighted_sum(i: usize, qstep: i32, tskip: u8, p: i64) -> i64
     ensures { (result ≡ weight i 0 *ℤ pos (32 * tskip) +ℤ weight i 1 *ℤ qstep +ℤ weight i 2 *ℤ p) × (nat_abs result ≤ 36028797018963968) }
 {
     let w = MODE_WEIGHTS[i];
-    let t = 32 * tskip as i64;
-    w[0] as i64 * t + w[1] as i64 * qstep as i64 + w[2] as i64 * p
+    let t = 32 * i64::from(tskip);
+    i64::from(w[0]) * t + i64::from(w[1]) * i64::from(qstep) + i64::from(w[2]) * p
 }
 
 // v / 8192, halves away from zero.
@@ -71,11 +71,12 @@ pub fn get_qval_given_tskip(qstep: i32, tskip: u8, i: usize) -> Result<i32, Refu
         return Err(Refusal::Outside);
     }
     let v = by_8192(weighted_sum(i, qstep, tskip, tskip_product(qstep, tskip)));
-    let offset = MODE_OFFSETS[i];
-    Ok(iclip64to32(255 * (offset as i64 + v), i32::MIN, i32::MAX))
+    let offset = i64::from(MODE_OFFSETS[i]);
+    Ok(iclip64to32(255 * (offset + v), i32::MIN, i32::MAX))
 }
 
-// The bin of a value, 0 to 7.
+// The bin of a value, 0 to 7: from i32 to u32 `as` changes the sign alone.
+#[tactic(auto, unfolding(definition::specs::ClassIndex::bin))]
 pub fn get_qval_lut_bin(qval: i32) -> u32
     ensures { result ≡ bin qval }
 {

@@ -1,18 +1,19 @@
--- Tests over a whole list (`every`): by its places, by its largest entry, and where one of them fails.
+-- Tests over a whole list (`every`): by its places, by its largest entry, and by the first of them.
 use mathlib.Core.Path.{◌≡◌, refl, sym, ap, ◌∙◌}
-use mathlib.Core.Bool.{Bool, true, false, not, ◌&&◌, ◌||◌, and-true}
+use mathlib.Core.Bool.{Bool, true, ◌&&◌, and-true}
 use mathlib.Core.List.{List, [], ◌∷◌}
-use Prim.Native.Nat.{ℕ, zero, suc, ◌≤◌, ◌<◌, max}
+use Prim.Native.Nat.{ℕ, zero, suc, ◌<◌, max}
 use native.Mathlib.Nat.{not-suc-le-zero, le_of_suc-le-suc}
 use native.Mathlib.Omega.{arith}
 use native.Mathlib.Decide.{dec_lt}
-use lib.Dec.{ltb, leb}
+use lib.Dec.{ltb}
 use lib.ListN.{length, get_or}
-use borrow.Author.Tests.{lt-ltb, le-ltb, le-leb, lt-leb}
+use borrow.Author.Tests.{lt-ltb, le-ltb}
 use Rattle.std.proofs.Math.Bool.{and_assoc}
-use Rattle.std.specs.List.{fold, list_any}
+use Rattle.std.specs.List.{fold}
 use Rattle.definition.specs.Refusals.{every, first_pass}
 use Rattle.laws.proofs.Passes.{both}
+use Rattle.bounds.proofs.Passes.{pass_first}
 
 pub every-at : (test : ℕ → Bool) (xs : List ℕ) (k : ℕ) → k < length xs → every test xs ≡ true → test (get_or xs k 0) ≡ true
 every-at test [] k l e = absurd (not-suc-le-zero l)
@@ -36,29 +37,12 @@ below : (xs : List ℕ) (a n : ℕ) → ltb (fold max a xs) n ≡ (ltb a n && ev
 below [] a n = sym (and-true (ltb a n))
 below (x ∷ xs) a n = below xs (max a x) n ∙ ap (λ b. b && every (λ y. ltb y n) xs) (larger-below a x n) ∙ and_assoc (ltb a n) (ltb x n) (every (λ y. ltb y n) xs)
 
-pub below-largest : (xs : List ℕ) (n : ℕ) → 0 < length xs → ltb (fold max 0 xs) n ≡ every (λ x. ltb x n) xs
-below-largest [] n h = absurd (omega arith)
-below-largest (x ∷ xs) n h = below xs (max 0 x) n ∙ ap (λ m. ltb m n && every (λ y. ltb y n) xs) (omega arith)
+pub below_largest : (xs : List ℕ) (n : ℕ) → 0 < length xs → ltb (fold max 0 xs) n ≡ every (λ x. ltb x n) xs
+below_largest [] n h = absurd (omega arith)
+below_largest (x ∷ xs) n h = below xs (max 0 x) n ∙ ap (λ m. ltb m n && every (λ y. ltb y n) xs) (omega arith)
 
--- A TEST OF THE FIRST n fails where one of n does
-first_pass_cons : (test : ℕ → Bool) (x : ℕ) (xs : List ℕ) (n : ℕ) → first_pass test (suc n) (x ∷ xs) ≡ (test x && first_pass test n xs)
+-- A TEST OF ALL, as the first n of them
+pub every_first : (test : ℕ → Bool) (xs : List ℕ) → every test xs ≡ first_pass test (length xs) xs
 unfolding first_pass
-first_pass_cons test x xs zero = sym (and-true (test x))
-first_pass_cons test x xs (suc n) =
-    ap (λ b. b && test (get_or xs n 0)) (first_pass_cons test x xs n) ∙ and_assoc (test x) (first_pass test n xs) (test (get_or xs n 0))
-
-not-and : (a b : Bool) → not (a && b) ≡ (not a || not b)
-not-and true b = refl
-not-and false b = refl
-
-pub any-fails : (xs : List ℕ) (n : ℕ) → list_any (λ x. leb n x) xs ≡ not (first_pass (λ x. ltb x n) (length xs) xs)
-unfolding first_pass
-any-fails [] n = refl
-any-fails (x ∷ xs) n =
-    rw (first_pass_cons (λ y. ltb y n) x xs (length xs), not-and (ltb x n) (first_pass (λ y. ltb y n) (length xs) xs), ← any-fails xs n)
-    (elim (dec_lt x n) [
-      | yes h ↦ rw (lt-ltb x n h, lt-leb n x h) refl
-      | no h ↦
-          let k : n ≤ x = omega arith in
-          rw (le-ltb x n k, le-leb n x k) refl
-    ])
+every_first test [] = refl
+every_first test (x ∷ xs) = ap (λ b. test x && b) (every_first test xs) ∙ pass_first test (length xs) x xs

@@ -1,53 +1,19 @@
--- The table of refusals as the code works it out: row counts by differences, and what its first lines bound.
-use mathlib.Core.Path.{◌≡◌, sym}
-use mathlib.Core.Bool.{Bool, true, false, cond, not, ◌&&◌, ◌||◌}
-use Prim.Native.Nat.{ℕ, zero, suc, ◌+◌, ◌*◌, ◌-◌, ◌≤◌, ◌<◌}
-use native.Mathlib.Nat.{add_assoc}
-use native.Mathlib.Decide.{dec_le}
+-- What the first lines of the table of refusals bound.
+use mathlib.Core.Path.{◌≡◌}
+use mathlib.Core.Bool.{◌&&◌, ◌||◌}
+use Prim.Native.Nat.{◌+◌, ◌≤◌}
 use native.Mathlib.Omega.{arith}
-use lib.Dec.{ltb, leb}
-use borrow.Author.Tests.{lt-ltb, le-ltb, lt-leb, le-leb, ltb-false, not-false}
+use lib.Dec.{ltb}
+use borrow.Author.Tests.{ltb-false, not-false}
 use Rattle.definition.specs.declared.Operation.{Operation}
 use Rattle.definition.specs.declared.Given.{Given}
 use Rattle.definition.specs.Limits.{width_limit, height_limit, stride_limit}
 use Rattle.definition.specs.Units.{border, chromatic}
-use Rattle.definition.specs.Refusals.{lowest, outside, right_of}
+use Rattle.definition.specs.Refusals.{lowest, right_of}
 use Rattle.laws.proofs.Passes.{not_both}
 use Rattle.laws.proofs.Checks.{clear}
 use Rattle.laws.proofs.Inside.{is-sized, unless}
 use Rattle.refusals.specs.Table.{first_checks, Within}
-
-pub cond_le : (b : Bool) (x y n : ℕ) → x ≤ n → y ≤ n → cond b x y ≤ n
-cond_le true x y n h k = h
-cond_le false x y n h k = k
-
--- ROWS OF LENT BYTES, BY THE ROOM BEHIND AN OFFSET
-not_leb : (a b : ℕ) → not (leb a b) ≡ ltb b a
-not_leb a b =
-    elim (dec_le a b) [
-      | yes h ↦ rw (le-leb a b h) (sym (le-ltb b a h))
-      | no h ↦
-          let k : b < a = omega arith in
-          rw (lt-leb a b k) (sym (lt-ltb b a k))
-    ]
-
-pub narrow : (w e stride : ℕ) → not (leb (w + e + 0) stride) ≡ ltb stride (w + e)
-narrow w e stride = let z : w + e + 0 ≡ w + e = omega arith in rw z (not_leb (w + e) stride)
-
-module _ (len off stride : ℕ) where
-  pub outside-before : (rows w before behind : ℕ) → 0 < rows → off < before → true ≡ outside len off stride rows w before behind
-  outside-before zero w before behind h k = absurd (omega arith)
-  outside-before (suc rows) w before behind h k = rw (lt-ltb off before k)
-
-  pub outside_behind :
-      (rows w before behind : ℕ) →
-      0 < rows →
-      before ≤ off →
-      not (leb (off + (rows - 1) * stride + (w + behind)) len) ≡ outside len off stride rows w before behind
-  outside_behind zero w before behind h k = absurd (omega arith)
-  outside_behind (suc rows) w before behind h k =
-      let d : suc rows - 1 ≡ rows = omega arith in
-      rw (le-ltb off before k, d, ← add_assoc (off + rows * stride) w behind) (not_leb (off + rows * stride + w + behind) len)
 
 -- WHAT THE FIRST FOUR LINES BOUND
 module _ (op : Operation) (g : Given) where

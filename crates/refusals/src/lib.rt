@@ -2,21 +2,28 @@
 // taken once the sizes and strides are within their limits.
 #![tactic(auto)]
 
-ghost use Rattle.std.specs.Prelude.{◌≡◌, cond, not, ◌&&◌, ◌||◌, ◌+◌, ◌-◌, ◌*◌, ◌/◌, ◌%◌, ◌≤◌, ◌<◌, max, leb, ltb, eqb, length};
-ghost use Rattle.std.specs.List.{fold, list_any};
-ghost use Rattle.definition.specs.Answers.{status_from};
+ghost use Rattle.std.specs.Prelude.{◌≡◌, cond, not, ◌&&◌, ◌||◌, ◌+◌, ◌-◌, ◌*◌, ◌/◌, ◌%◌, ◌≤◌, ◌<◌, max, ltb};
+ghost use Rattle.std.specs.List.{fold};
+ghost use Rattle.definition.specs.Answers.{number, status_from};
 ghost use Rattle.definition.specs.Numbers.{bit_set};
-ghost use Rattle.definition.specs.Units.{border, chromatic, set_size};
-ghost use Rattle.definition.specs.Limits.{width_limit, height_limit, block_column_limit, stride_limit, plane_side_limit, unit_size_limit};
+ghost use Rattle.definition.specs.Units.{border, set_size};
+ghost use Rattle.definition.specs.Limits.{width_limit, height_limit, stride_limit, plane_side_limit, unit_size_limit};
 ghost use Rattle.definition.specs.Refusals.{unit_status, lowest, every, bad_shape, bad_kept, index_limit, next_limit, sized, outside, right_of, bottom_rows, bad_stride, bad_pair, bad_plane, bad_left, bad_top, bad_bottom, bad_masks, bad_filters, luma_rows, luma_above, luma_down, luma_top_rows, luma_outside, any_luma_outside, bad_luma, bad_map, plane_status};
 ghost use Rattle.refusals.specs.Table.{first_checks, later_checks, LumaWithin, Within};
 
-use bounds::{is_set, is_sized, room};
+use bounds::{is_bad_sampling, is_set, is_sized, room};
 use definition::{
     BLOCK_COLUMN_LIMIT, Given, HEIGHT_LIMIT, INDEX_COUNT, MAP_SIZE, Operation, PLANE_SIDE_LIMIT,
     Refusal, SCRATCH_ROWS, SIDE, STRIDE_LIMIT, Sizes, UNIT_SIZE_LIMIT, WIDTH_LIMIT,
 };
 use operations::{border_of, is_chroma, is_classed, luma_step, set_size, top_rows};
+
+// A line of the table: its condition, and the reason that it gives.
+fn refuse_if(bad: bool, refusal: Refusal) -> Result<(), Refusal>
+    ensures { status_from result ≡ cond bad (number refusal) 0 }
+{
+    if bad { Err(refusal) } else { Ok(()) }
+}
 
 // e where bit k is set, else 0.
 fn beside(m: usize, k: usize, e: usize) -> usize
@@ -61,7 +68,7 @@ fn bad_stride(op: Operation, g: Given) -> bool
 fn bad_pair(op: Operation, g: Given) -> bool
     ensures { result ≡ bad_pair op g }
 {
-    is_chroma(op) && (1 < g.ss_hor || g.ss_hor < g.ss_ver || 2 < g.kind)
+    is_chroma(op) && is_bad_sampling(g.ss_hor, g.ss_ver, g.kind)
 }
 
 // Saved rows that are padded from below.
@@ -79,19 +86,10 @@ fn bottom_rows(edges: usize) -> usize
 fn early(op: Operation, g: Given) -> Result<(), Refusal>
     ensures { status_from result ≡ lowest (first_checks op g) }
 {
-    if !is_sized(g.w, WIDTH_LIMIT) {
-        return Err(Refusal::Width);
-    }
-    if !is_sized(g.h, HEIGHT_LIMIT) {
-        return Err(Refusal::Height);
-    }
-    if bad_stride(op, g) {
-        return Err(Refusal::Stride);
-    }
-    if bad_pair(op, g) {
-        return Err(Refusal::Sampling);
-    }
-    Ok(())
+    refuse_if(!is_sized(g.w, WIDTH_LIMIT), Refusal::Width)?;
+    refuse_if(!is_sized(g.h, HEIGHT_LIMIT), Refusal::Height)?;
+    refuse_if(bad_stride(op, g), Refusal::Stride)?;
+    refuse_if(bad_pair(op, g), Refusal::Sampling)
 }
 
 // A unit that those lines let pass.
@@ -108,28 +106,13 @@ impl Bounded<'_> {
     fn later(&self) -> Result<(), Refusal>
         ensures { status_from result ≡ lowest (later_checks self.now.op self.now.g.now self.now.z.now) }
     {
-        if self.bad_plane() {
-            return Err(Refusal::Outside);
-        }
-        if self.bad_left() {
-            return Err(Refusal::Left);
-        }
-        if self.bad_top() {
-            return Err(Refusal::Top);
-        }
-        if self.bad_bottom() {
-            return Err(Refusal::Bottom);
-        }
-        if self.bad_masks() {
-            return Err(Refusal::Masks);
-        }
-        if self.bad_filters() {
-            return Err(Refusal::Filters);
-        }
-        if self.bad_luma() {
-            return Err(Refusal::Luma);
-        }
-        Ok(())
+        refuse_if(self.bad_plane(), Refusal::Outside)?;
+        refuse_if(self.bad_left(), Refusal::Left)?;
+        refuse_if(self.bad_top(), Refusal::Top)?;
+        refuse_if(self.bad_bottom(), Refusal::Bottom)?;
+        refuse_if(self.bad_masks(), Refusal::Masks)?;
+        refuse_if(self.bad_filters(), Refusal::Filters)?;
+        refuse_if(self.bad_luma(), Refusal::Luma)
     }
 
     // Rows of the unit's own plane, with `before` samples before them.
@@ -292,6 +275,7 @@ fn most(xs: &[u8]) -> u8
     xs.iter().fold(0, |m, x| m.max(*x))
 }
 
+#[tactic(auto, using(crate::proofs::Every::below_largest))]
 fn all_below(xs: &[u8], n: usize) -> bool
     ensures { result ≡ every (λ x. ltb x n) xs.now }
 {
@@ -332,17 +316,12 @@ pub fn bad_shape(
     other || h < done || !bounds::indices_up_to(indices, index_limit(op)) || next_limit(op) < next
 }
 
-fn any_past(classes: &[u8], sets: usize) -> bool
-    ensures { result ≡ list_any (λ c. leb sets c) classes.now }
-{
-    classes.iter().any(|class| sets <= usize::from(*class))
-}
-
 // .. and, classed, a kept class past the filters.
+#[tactic(auto, using(crate::proofs::Every::every_first))]
 pub fn bad_kept(op: Operation, classes: &[u8; BLOCK_COLUMN_LIMIT], filters: usize) -> bool
     ensures { result ≡ bad_kept op classes.now filters }
 {
-    is_classed(op) && any_past(classes, filters / set_size(op))
+    is_classed(op) && !all_below(classes, filters / set_size(op))
 }
 
 fn bad_sides(w: usize, h: usize, unit: usize) -> bool
@@ -353,7 +332,7 @@ fn bad_sides(w: usize, h: usize, unit: usize) -> bool
         || !is_sized(unit, UNIT_SIZE_LIMIT)
 }
 
-// A whole luma plane, by its sides, the side of its units and the lengths of what is lent.
+// A whole luma plane, by its sides, the side of its units and the lengths of what is lent. Its seven numbers are those of the definition.
 #[tactic(auto, unfolding(definition::specs::Refusals::plane_status))]
 pub fn plane_status(
     w: usize,
@@ -366,20 +345,9 @@ pub fn plane_status(
 ) -> Result<(), Refusal>
     ensures { status_from result ≡ plane_status w h unit plane skip filter scratch }
 {
-    if bad_sides(w, h, unit) {
-        return Err(Refusal::Plane);
-    }
-    if plane < h * w {
-        return Err(Refusal::Outside);
-    }
-    if skip < h / SIDE * blocks::skip_numbers(w) {
-        return Err(Refusal::Masks);
-    }
-    if filter != set_size(Operation::Luma) {
-        return Err(Refusal::Filters);
-    }
-    if scratch < SCRATCH_ROWS * w {
-        return Err(Refusal::Scratch);
-    }
-    Ok(())
+    refuse_if(bad_sides(w, h, unit), Refusal::Plane)?;
+    refuse_if(plane < h * w, Refusal::Outside)?;
+    refuse_if(skip < h / SIDE * blocks::skip_numbers(w), Refusal::Masks)?;
+    refuse_if(filter != set_size(Operation::Luma), Refusal::Filters)?;
+    refuse_if(scratch < SCRATCH_ROWS * w, Refusal::Scratch)
 }

@@ -3,6 +3,7 @@ ghost use Rattle.std.specs.Prelude.{◌≡◌, ◌≤◌, ◌*◌, length};
 
 use crate::numbers::{Numbers, below};
 use definition::{Given, Lists, MAP_SIZE, NO_LISTS, Operation};
+use operations::border_of;
 use std::fmt;
 
 // A list is a part of the pool from one of so many places on. None is longer than the limit.
@@ -49,13 +50,6 @@ impl Edges {
     {
         if self.has(bit) { n } else { 0 }
     }
-}
-
-// Samples of the border that a unit reads on each side.
-fn border(op: Operation) -> usize
-    ensures { result ≤ 4 }
-{
-    if op == Operation::Chroma { 2 } else { 4 }
 }
 
 // One unit in eight may be large.
@@ -114,7 +108,11 @@ impl fmt::Display for Unit {
         write!(
             f,
             "unit {} op={} w={} h={} edges={}",
-            self.k, self.op as usize, g.w, g.h, g.edges
+            self.k,
+            operations::number_of(self.op),
+            g.w,
+            g.h,
+            g.edges
         )
     }
 }
@@ -125,8 +123,8 @@ impl Unit {
         let op = OPERATIONS[k % 4];
         let edges = Edges(k / 4 % 64 + 64 * below(k, 11, 4));
         let w = side(k, 12);
-        let left = edges.beside(LEFT, border(op));
-        let right = edges.beside(RIGHT, border(op));
+        let left = edges.beside(LEFT, border_of(op));
+        let right = edges.beside(RIGHT, border_of(op));
         let given = Given {
             w,
             h: side(k, 13),
@@ -182,18 +180,7 @@ impl Unit {
     fn rows(&self) -> usize
         ensures { result ≤ 68 }
     {
-        self.given.h + self.edges().beside(BOTTOM_INTEGRATED, border(self.op))
-    }
-
-    fn top_rows(&self) -> usize
-        ensures { result ≤ 4 }
-    {
-        let edges = self.edges();
-        if edges.has(TOP_INTEGRATED) {
-            border(self.op)
-        } else {
-            edges.beside(TOP, 2)
-        }
+        self.given.h + self.edges().beside(BOTTOM_INTEGRATED, border_of(self.op))
     }
 
     fn bottom_rows(&self) -> usize
@@ -236,7 +223,7 @@ impl Unit {
         requires rows { rows ≤ 68 }
         ensures { result ≤ LIST_LIMIT }
     {
-        let row = self.given.w + self.edges().beside(RIGHT, border(self.op));
+        let row = self.given.w + self.edges().beside(RIGHT, border_of(self.op));
         extent(off, rows, self.given.stride, row)
     }
 
@@ -250,7 +237,7 @@ impl Unit {
         extent(off, rows, g.luma_stride, row)
     }
 
-    // n bytes, from a place that depends on the list.
+    // n bytes, from a place that depends on the list. A usize has no From to u64.
     fn part<'a>(&self, pool: &'a [u8; POOL_SIZE], list: u64, n: usize) -> &'a [u8]
         requires { n ≤ LIST_LIMIT }
     {
@@ -279,7 +266,7 @@ impl Unit {
     ) -> Lists<'a> {
         let g = self.given;
         let left = self.edges().beside(LEFT, 6 * g.h);
-        let top = self.extent(g.top_off, self.top_rows());
+        let top = self.extent(g.top_off, operations::top_rows(self.op, g.edges));
         let bottom = self.extent(g.bottom_off, self.bottom_rows());
         let lists = Lists {
             left: self.part(pool, 31, left),

@@ -31,10 +31,12 @@ fn replay(
     let plane = &mut space[..part.len()];
     plane.copy_from_slice(part);
     let restored = restore::restored(&unit, plane, &unit.lists(pool, map, &numbers));
+    let (status, pieces) = match restored {
+        Ok(pieces) => (0, pieces),
+        Err(refusal) => (u8::from(refusal), 0),
+    };
     println!(rt;
-        "{unit} status={} pieces={} plane={:016x}",
-        restored.status,
-        restored.pieces,
+        "{unit} status={status} pieces={pieces} plane={:016x}",
         numbers::digest(plane)
     )
 }

@@ -1,4 +1,5 @@
 // The generator that both programs make their units from: numbers and lists that depend on the unit's number alone.
+// Casts: usize and u64 have no From to each other, and a number that is narrowed is below the end of its type.
 ghost use Rattle.std.specs.Prelude.{◌<◌, ◌≤◌, ◌+◌, ◌^◌, ◌≤ℤ◌, ◌<ℤ◌, pos, neg_ℤ};
 
 use definition::MAP_SIZE;
@@ -41,14 +42,14 @@ pub fn sample(i: usize) -> u8 {
     }
 }
 
-// Entry i of the map that the Rust is run with.
+// Entry i of the map that the Rust is run with. `traps` has the same formula: a crate for one line would be no plainer.
 pub fn map_entry(i: usize) -> u8
     requires { i < MAP_SIZE }
 {
     ((i * 37 + i / 64) % 64) as u8
 }
 
-// Shapes are numbers because they are drawn: an enum would only name each once more. So it is with those of filters.
+// Shapes are numbers because they are drawn: an enum would only name each once more.
 fn mask(shape: u64, v: u64) -> u16 {
     match shape {
         0 | 1 => 0,
@@ -79,7 +80,7 @@ fn signed(x: u64, half: u64) -> i64
     }
 }
 
-// A number of a type of which half lies below 0: an end, either end, any number, or else the small one.
+// A number of a type of which half lies below 0: an end, either end, any number, or else the small one. Its shape is drawn, as a mask's is, here and in the next two.
 fn number(shape: u64, v: u64, half: u64, small: u64) -> i64
     requires half { (0 < half) × (half ≤ 2 ^ 31) }
     requires small { small < half + half }

@@ -2,7 +2,6 @@
 use crate::lists::Unit;
 use crate::numbers::below;
 use definition::{HEIGHT_LIMIT, Lists, Refusal};
-use whole::Restored;
 
 const ADVANCES: usize = 8;
 
@@ -30,10 +29,10 @@ fn by_advances(unit: &Unit, p: &mut [u8], lent: &Lists) -> Result<usize, Refusal
     Ok(pieces)
 }
 
-pub fn restored(unit: &Unit, p: &mut [u8], lent: &Lists) -> Restored {
+pub fn restored(unit: &Unit, p: &mut [u8], lent: &Lists) -> Result<usize, Refusal> {
     if in_advances(unit) {
-        Restored::from(by_advances(unit, p, lent))
+        by_advances(unit, p, lent)
     } else {
-        Restored::from(whole::restore(unit.op, unit.given, p, lent))
+        whole::restore(unit.op, unit.given, p, lent)
     }
 }

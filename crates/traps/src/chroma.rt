@@ -1,14 +1,10 @@
 // Chroma units, their luma subsampled horizontally.
-ghost use Rattle.std.specs.Prelude.{◌≡◌};
-
 use crate::lists::{self, BOTTOM, LIMITS, LUMA_STRIDE, STRIDE, Samples, samples_of, unit};
 use definition::{Given, HEIGHT_LIMIT, Lists, NO_LISTS, Operation};
 use std::array::from_fn;
 use std::io;
 
-fn given(w: usize, h: usize, ss_ver: usize, kind: usize) -> Given
-    ensures { result.stride ≡ STRIDE }
-{
+fn given(w: usize, h: usize, ss_ver: usize, kind: usize) -> Given {
     Given {
         luma_stride: LUMA_STRIDE,
         ss_hor: 1,

@@ -1,15 +1,11 @@
 // Units with user sets and with pretrained sets.
-ghost use Rattle.std.specs.Prelude.{◌<◌};
-
 use crate::lists::{self, BOTTOM, LIMITS, STRIDE, Samples, given, samples_of, unit};
 use definition::{Given, Lists, MAP_SIZE, NO_LISTS, Operation};
 use std::array::from_fn;
 use std::io;
 
 // A unit of either operation, lent the filters of its own.
-fn both(rt: &impl Print, title: &str, g: Given, lent: &Lists<'_>) -> io::Result<()>
-    requires { 0 < g.stride }
-{
+fn both(rt: &impl Print, title: &str, g: Given, lent: &Lists<'_>) -> io::Result<()> {
     let user = Lists { wide: &[], ..*lent };
     unit(rt, format_args!("{title}: n"), Operation::User, g, &user)?;
     let pretrained = Lists {

@@ -1,16 +1,14 @@
 -- An advance of any operation: so many steps, served or declined.
-use mathlib.Core.Path.{◌≡◌, refl, sym, ◌∙◌, ap}
+use mathlib.Core.Path.{◌≡◌, refl}
 use mathlib.Core.List.{List}
-use Prim.Native.Nat.{ℕ, zero, suc, ◌+◌, ◌-◌, ◌/◌, min}
-use native.Mathlib.Numerals.{add-one}
-use lib.ListN.{length}
+use Prim.Native.Nat.{ℕ, zero, suc, ◌-◌, ◌/◌, min}
 use Rattle.definition.specs.declared.Operation.{Operation}
 use Rattle.definition.specs.Blocks.{side, pieces_of}
 use Rattle.definition.specs.Units.{Lent}
-use Rattle.history.specs.History.{World, Out}
-use Rattle.history.specs.Advance.{steps, advanced, pick_out}
+use Rattle.history.specs.History.{Out}
+use Rattle.history.specs.Advance.{advanced, pick_out}
 use Rattle.units.specs.declared.State.{State}
-use Rattle.units.specs.Step.{step_of, OneRow, Gone}
+use Rattle.units.specs.Step.{Gone}
 use Rattle.std.specs.Prelude.{Ok, Err}
 use Rattle.definition.specs.declared.Refusal.{Refusal}
 use Rattle.definition.specs.Answers.{number}
@@ -19,28 +17,12 @@ use Rattle.units.specs.Advances.{Answered, answer, advanced_of, status_of}
 use Rattle.definition.specs.Calls.{call_of}
 
 module _ (op : Operation) (l : Lent) (s₀ : State) (p₀ : List ℕ) where
-  pub gone-none : Gone op l s₀ p₀ 0 s₀ p₀
-  gone-none = record { state = refl; plane = refl; size = refl }
-
-  -- one step more, by what the step is
-  gone_more : (i : ℕ) {s t : State} {p q : List ℕ} → Gone op l s₀ p₀ i s p → record { state = t; plane = q } ≡ step_of op l (record { state = s; plane = p }) → length q ≡ length p →
-      Gone op l s₀ p₀ (i + 1) t q
-  gone_more i {s} {t} {p} {q} g e z =
-      let w : World State = record { state = s₀; plane = p₀ } in
-      let n : steps (step_of op l) (i + 1) w ≡ step_of op l (steps (step_of op l) i w) = ap (λ (k : ℕ). steps (step_of op l) k w) (add-one i) in
-      let d : record { state = t; plane = q } ≡ steps (step_of op l) (i + 1) w =
-      e ∙ ((λ k. step_of op l (record { state = g.state k; plane = g.plane k })) ∙ sym n) in
-      record { state = ap (λ (x : World State). x.state) d; plane = ap (λ (x : World State). x.plane) d; size = z ∙ g.size }
-
   -- an advance that is served
   pub served : (count n pieces : ℕ) {s : State} {p : List ℕ} → status_of (call_of op count l) s₀ p₀ ≡ 0 → n ≡ min count (s₀.given.h - s₀.done) →
       pieces ≡ pieces_of l.skip (s₀.given.w / side) s₀.done n → Gone op l s₀ p₀ n s p →
       Answered (advanced_of s (Ok pieces)) p (answer (call_of op count l) s₀ p₀)
   unfolding answer advanced
   served count n pieces z en ep g = rw (z, ← en) (record { status = refl; pieces = ep; state = g.state; plane = g.plane })
-
-  pub gone-row : (i : ℕ) {s t : State} {p q : List ℕ} → Gone op l s₀ p₀ i s p → OneRow op l s p t q → Gone op l s₀ p₀ (i + 1) t q
-  gone-row i g r = gone_more i g r.is r.size
 
   -- .. and one that is declined
   pub declined : (count : ℕ) (r : Refusal) → number r ≡ status_of (call_of op count l) s₀ p₀ → Answered (advanced_of s₀ (Err r)) p₀ (answer (call_of op count l) s₀ p₀)

@@ -1,8 +1,8 @@
 -- The class of a block: its index is in the map, the call for it is not refused, and a class is below what all subclasses are below.
-use mathlib.Core.Path.{◌≡◌, refl, ◌∙◌}
+use mathlib.Core.Path.{◌≡◌, ◌∙◌}
 use mathlib.Core.Bool.{true}
 use mathlib.Core.List.{List}
-use Prim.Native.Nat.{ℕ, ◌+◌, ◌/◌, ◌≤◌, ◌<◌}
+use Prim.Native.Nat.{ℕ, ◌+◌, ◌≤◌, ◌<◌}
 use native.Mathlib.Nat.{zero-add}
 use native.Mathlib.Decide.{dec_lt}
 use native.Mathlib.Omega.{arith}
@@ -11,14 +11,13 @@ use lib.IntN.{ℤ}
 use lib.ListN.{length, get_or, replicate}
 use lib.Seq.{sets}
 use borrow.Author.Tests.{ltb-true, le-ltb, le-leb, lt-leb}
-use Rattle.definition.specs.Blocks.{side}
 use Rattle.definition.specs.Limits.{block_column_limit, block_row_limit, map_size}
 use Rattle.definition.specs.declared.Given.{Given}
 use Rattle.definition.specs.Rows.{tab}
-use Rattle.definition.specs.ClassIndex.{bin, term, feature_bin, index_of, class_index, last_column}
+use Rattle.definition.specs.ClassIndex.{bin, term, feature_bin, index_of, last_column}
 use Rattle.definition.specs.Refusals.{every, rows_size}
 use Rattle.definition.specs.Units.{Lent}
-use Rattle.definition.specs.Leaves.{rows_status, row_features_status, block_flat, feature_row, place_status}
+use Rattle.definition.specs.Leaves.{rows_status, row_features_status, feature_row, place_status}
 use Rattle.laws.proofs.Lists.{sets_in, sets_behind, length_tab, get_or-tab}
 use Rattle.laws.proofs.Passes.{pass_all}
 use Rattle.history.proofs.Ring.{Ring}
@@ -59,16 +58,6 @@ place_serves noskip bx by bh column line limit masks = rw (le-ltb last_column bx
 -- an entry of a list that is all below n
 pub entry_low : (xs : List ℕ) (n k : ℕ) → k < length xs → every (λ x. ltb x n) xs ≡ true → get_or xs k 0 < n
 entry_low xs n k h e = ltb-true (get_or xs k 0) n (every-at (λ x. ltb x n) xs k h e)
-
--- the class that a block is given, by the lists themselves
-abbrev pub class_by : List ℕ → List ℕ → List ℕ → ℤ → List ℕ → List ℕ → ℕ → ℕ → ℕ → ℕ
-class_by rows indices noskip q map subclass by bh bx =
-    get_or subclass (get_or map (class_index (block_flat rows indices bx) noskip q bx by bh) 0) 0
-
-pub class_is : (g : Given) (l : Lent) (r : Ring) (y bx : ℕ) →
-    class_by r.slots r.idx l.noskip l.q l.map l.subclass (y / side) (g.h / side) bx ≡ class_at g l r y bx
-unfolding class_at
-class_is g l r y bx = refl
 
 -- a class is below the number of sets
 pub class_low : (g : Given) (l : Lent) (r : Ring) (y bx n : ℕ) → length l.map ≡ map_size → every (λ m. ltb m (length l.subclass)) l.map ≡ true →

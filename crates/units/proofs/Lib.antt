@@ -1,3 +1,4 @@
+pub mod Made
 pub mod Edges
 pub mod Sources
 pub mod Firsts

@@ -19,7 +19,6 @@ use Rattle.definition.specs.Units.{Lent, luma_at, luma_part, luma_own, luma_top_
 use Rattle.definition.specs.Refusals.{beside, bottom_rows, luma_rows, luma_top_rows}
 use Rattle.laws.proofs.Ints.{sub_pos}
 use Rattle.laws.proofs.Lists.{tab_cong}
-use Rattle.padding.proofs.Status.{given-inside-luma}
 use Rattle.definition.specs.Leaves.{luma_status, backup_luma_row, lower_at}
 use Rattle.model.proofs.Rows.{first_row}
 use Rattle.model.proofs.LumaRows.{luma_pad_row}
@@ -121,12 +120,6 @@ from-served g src at stride e f =
     (λ j h. ap (λ (z : ℕ). cond (even_only g.ss_ver g.kind && eqb (j % 2) 1) z
     (luma_padded g.edges g.ss_hor g.ss_ver g.kind (luma_width g) (row_at src (pos at)) (row_at src (pos (at + stride))) (pos j -ℤ pos 4)))
     (zeros luma_row_bytes (2 + j)))))
-
--- a row that is not refused starts inside
-pub at-inside : (g : Given) (len at stride : ℕ) → LumaFits g len at stride → at ≤ len
-at-inside g len at stride f =
-    let i = given-inside-luma luma_row_bytes row_origin len at stride (luma_width g) g.edges g.ss_hor g.ss_ver g.kind f in
-    omega (arith, i.row)
 
 module _ {g : Given} {plane : ℕ} (lie : LumaPlaneLies g plane) where
   abbrev before : ℕ

@@ -1,5 +1,5 @@
 -- One row of a unit of any operation: what it is restored from, what is kept for the next one, and the step that it makes.
-use mathlib.Core.Path.{◌≡◌, refl, sym, ◌∙◌, ap}
+use mathlib.Core.Path.{◌≡◌, refl, ◌∙◌, ap}
 use mathlib.Core.Bool.{Bool, true, false, cond}
 use mathlib.Core.List.{List}
 use Prim.Native.Nat.{ℕ, ◌+◌, ◌*◌, ◌/◌, ◌^◌, ◌≤◌, ◌<◌}
@@ -16,15 +16,13 @@ use Rattle.definition.specs.Limits.{block_column_limit}
 use Rattle.definition.specs.Sample.{limit8}
 use Rattle.definition.specs.Units.{border, classed, chromatic, set_size, Lent, step}
 use Rattle.definition.specs.Refusals.{index_limit, next_limit}
-use Rattle.laws.proofs.Ints.{never}
 use Rattle.laws.proofs.Lists.{tab_cong}
 use Rattle.history.proofs.Ring.{Ring, fetch_sizes, fetch-low, fetch-next-low, slid_length, slid-low, set_low}
 use Rattle.model.proofs.Rows.{pad_row, own}
 use Rattle.model.proofs.LumaRows.{luma_pad_row}
-use Rattle.operations.proofs.Chosen.{when_chroma}
 use Rattle.model.proofs.Cells.{HasSet, cell_of}
 use Rattle.units.specs.Windows.{Fit, Ringed, Sound}
-use Rattle.model.proofs.Step.{ring, newest, begins, with_tenth, luma_too, taken, class_at, classes_by, slid_by, Fetched, LumaFetched, Taken}
+use Rattle.model.proofs.Step.{ring, newest, begins, with_tenth, luma_too, taken, class_at, classes_by, slid_by, Taken}
 use Rattle.units.specs.Restored.{columns_of, Restorable}
 use Rattle.units.proofs.Sources.{plane-inside}
 use Rattle.units.specs.Step.{state_at, state_of, plane_of, ring_of, Stays, OneRow}
@@ -32,26 +30,6 @@ use Rattle.units.specs.declared.State.{State}
 use Rattle.units.proofs.Classes.{class_low, classes_are}
 use Rattle.units.proofs.Fits.{has_set}
 use Rattle.units.proofs.TwoRings.{behind-long, behind-count, behind-low, slid-both-low, slid-count}
-
--- WHAT IT IS RESTORED FROM
-module _ (op : Operation) (g : Given) (l : Lent) (p : List ℕ) (done : ℕ) (classes : List ℕ) (old : Ring) where
-  abbrev Took : List ℕ → Ring → Operation → Type 0
-  Took cs new o = Taken o g l p done classes old cs new
-
-  pub taken-luma : {new : Ring} → chromatic op ≡ false → classed op ≡ false → Fetched op g l p done old new → Took classes new op
-  taken-luma {new} e k f = only op e k f.is
-    where
-      only : (o : Operation) → chromatic o ≡ false → classed o ≡ false → new ≡ newest o g l p done old → Took classes new o
-      only Luma e k n = record { rows = n; chosen = refl }
-      only User e k n = absurd (never (sym k))
-      only Pretrained e k n = absurd (never (sym k))
-      only Chroma e k n = absurd (never (sym e))
-
-  pub taken_chroma : {mid new : Ring} → chromatic op ≡ true → Fetched op g l p done old mid →
-      LumaFetched g l done (ring mid.slots mid.idx old.next) (ring new.slots new.idx old.next) → new.next ≡ mid.next → Took classes new op
-  taken_chroma {mid} {new} e f m t =
-      when_chroma (λ o. mid ≡ newest o g l p done old → Took classes new o)
-      (λ n. record { rows = (λ i. ring (m.is i).slots (m.is i).idx (t i)) ∙ (λ i. luma_too g l done old.next (n i)); chosen = refl }) op e f.is
 
 -- WHAT IS KEPT
 pub limits : (op : Operation) → (next_limit op ≡ border op + border op) × (next_limit op ≤ index_limit op)

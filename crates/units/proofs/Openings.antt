@@ -1,5 +1,5 @@
 -- Openings: padding looks at the left list and the saved borders alone, and the state before the first row is the definition's.
-use mathlib.Core.Path.{◌≡◌, refl, sym, ◌∙◌}
+use mathlib.Core.Path.{◌≡◌, refl, ◌∙◌}
 use mathlib.Core.Bool.{false}
 use mathlib.Core.List.{List, [], ◌∷◌, ◌++◌}
 use Prim.Native.Nat.{ℕ, ◌+◌}
@@ -12,10 +12,7 @@ use Rattle.definition.specs.Limits.{block_column_limit}
 use Rattle.definition.specs.Units.{border, number_of, Lent, chromatic}
 use Rattle.model.proofs.Opening.{filled, open_ring, open_index, open_rings}
 use Rattle.operations.proofs.Chosen.{unless_chroma}
-use Rattle.units.specs.declared.State.{State}
-use Rattle.std.specs.Prelude.{Ok}
-use Rattle.units.specs.Openings.{Begun, open_state, opened_of}
-use Rattle.definition.specs.Refusals.{open_status}
+use Rattle.units.specs.Openings.{open_state}
 
 module _ (op : Operation) (l : Lent) where
   -- the first rows and indices of a luma or classed unit
@@ -45,8 +42,3 @@ unfolding open_state
 first-state op n l p {e = e} o d i r =
     let m : e + e ≡ (open_rings op n l p).next = (λ k. d k + d k) ∙ first_next op n l p in
     λ k. record { op = o k; given = n; done = 0; next = m k; classes = replicate block_column_limit 0; indices = i k; rows = r k }
-
--- AN OPENING, declined or not
-module _ (op : Operation) (n : Given) (l : Lent) (p : List ℕ) where
-  pub begun_first : {s : State} → open_status op n l p ≡ 0 → s ≡ open_state op n l p → Begun op (opened_of (Ok s)) n l p
-  begun_first q z = record { status = sym q; state = z ∙ rw q }

@@ -1,5 +1,5 @@
 -- A row written in stretches: what the plane is once the blocks below bx are done, a masked stretch more, a run more.
-use mathlib.Core.Path.{◌≡◌, refl, sym, ◌∙◌, ap}
+use mathlib.Core.Path.{◌≡◌, sym, ◌∙◌, ap}
 use mathlib.Core.Bool.{true, false, cond}
 use mathlib.Core.List.{List}
 use Prim.Native.Nat.{ℕ, ◌+◌, ◌*◌, ◌-◌, ◌/◌, ◌≤◌, ◌<◌}
@@ -36,9 +36,6 @@ module _ (p : List ℕ) (at mask : ℕ) (f : ℕ → ℕ) where
   pub record Done (bx : ℕ) (q : List ℕ) : Type 0 where
     pub same : length q ≡ length p
     pub is : q ≡ sets p at (tab (bx * 4) cell)
-
-  pub none_done : Done 0 p
-  none_done = record { same = refl; is = refl }
 
 module _ {p : List ℕ} {at mask : ℕ} {f : ℕ → ℕ} where
   -- masked blocks stay

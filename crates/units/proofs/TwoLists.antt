@@ -5,7 +5,7 @@ use Prim.Native.Nat.{ℕ, suc, ◌+◌, ◌*◌, ◌-◌, ◌≤◌}
 use native.Mathlib.Nat.{zero-add, suc-add}
 use native.Mathlib.Omega.{arith}
 use lib.ListN.{length, set, take, drop, replicate, length-set, length-drop, length-replicate, take-append-drop}
-use lib.Seq.{sets, set-append_left, take-set-le, take-set-lt, drop-set-lt, drop-set-add, length-take-le}
+use lib.Seq.{sets, set-append_left, length-take-le}
 use Rattle.model.proofs.Opening.{filled_rows, filled_none, filled_more}
 
 -- STORES IN a ++ b
@@ -26,26 +26,6 @@ pub sets_first : (vs a b : List ℕ) (i : ℕ) → i + length vs ≤ length a �
 sets_first [] a b i h = refl
 sets_first (v ∷ vs) a b i h =
     rw (set-append_left a b i v (omega arith)) (sets_first vs (set a i v) b (suc i) (omega (arith, length-set a i v)))
-
--- the two parts of a list after stores
-pub take_sets_second : (vs l : List ℕ) (n i : ℕ) → n ≤ i → take n (sets l i vs) ≡ take n l
-take_sets_second [] l n i h = refl
-take_sets_second (v ∷ vs) l n i h = take_sets_second vs (set l i v) n (suc i) (omega arith) ∙ take-set-le n l i v h
-
-pub drop_sets_second : (vs l : List ℕ) (n i : ℕ) → drop n (sets l (n + i) vs) ≡ sets (drop n l) i vs
-drop_sets_second [] l n i = refl
-drop_sets_second (v ∷ vs) l n i =
-    let d : suc (n + i) ≡ n + suc i = omega arith in
-    rw d (drop_sets_second vs (set l (n + i) v) n (suc i) ∙ ap (λ (r : List ℕ). sets r (suc i) vs) (drop-set-add n l i v))
-
-pub take_sets_first : (vs l : List ℕ) (n i : ℕ) → i + length vs ≤ n → take n (sets l i vs) ≡ sets (take n l) i vs
-take_sets_first [] l n i h = refl
-take_sets_first (v ∷ vs) l n i h =
-    take_sets_first vs (set l i v) n (suc i) (omega arith) ∙ ap (λ (r : List ℕ). sets r (suc i) vs) (take-set-lt n l i v (omega arith))
-
-pub drop_sets_first : (vs l : List ℕ) (n i : ℕ) → i + length vs ≤ n → drop n (sets l i vs) ≡ drop n l
-drop_sets_first [] l n i h = refl
-drop_sets_first (v ∷ vs) l n i h = drop_sets_first vs (set l i v) n (suc i) (omega arith) ∙ drop-set-lt n l i v (omega arith)
 
 -- ROWS BEHIND A FRONT
 pub front-size : (rows : List ℕ) (n m : ℕ) → drop n rows ≡ replicate m 0 → 1 ≤ m → length (take n rows) ≡ n

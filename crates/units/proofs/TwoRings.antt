@@ -3,7 +3,6 @@ use mathlib.Core.Path.{◌≡◌, refl, sym, ◌∙◌, ap}
 use mathlib.Core.Bool.{Bool, true, false}
 use mathlib.Core.List.{List, [], ◌∷◌, ◌++◌}
 use Prim.Native.Nat.{ℕ, zero, suc, ◌+◌, ◌*◌, ◌≤◌, ◌<◌, zero-le}
-use native.Mathlib.Numerals.{add-one}
 use native.Mathlib.Omega.{arith}
 use lib.ListN.{length, get_or, set, take, drop, length-set, length-append, take-append-drop, get_or-append}
 use lib.Seq.{sets, length-sets, set-append_left, get_or-drop, take-append_seam, drop-append_seam, get_or-append-add}
@@ -35,12 +34,6 @@ pair_set a b n i k e hi hk =
     let s : length (set a i v) ≡ n = length-set a i v ∙ e in
     rw (get_or-append a b 0 k (omega arith), set-append_left a b i (get_or a k 0) (omega arith), get_or_second (set a i (get_or a k 0)) b n k s)
     (set_second (set a i v) b n i (get_or b k 0) s)
-
--- the windows moved on, one index more
-pub both-slid : (j : ℕ) (a b : List ℕ) → length a ≡ 5 → j < 4 →
-    set (set (slid j a ++ slid j b) j (get_or (slid j a ++ slid j b) (j + 1) 0)) (5 + j) (get_or (set (slid j a ++ slid j b) j (get_or (slid j a ++ slid j b) (j + 1) 0)) (5 + (j + 1)) 0) ≡
-    slid (j + 1) a ++ slid (j + 1) b
-both-slid j a b e h = rw add-one (pair_set (slid j a) (slid j b) 5 j (suc j) (slid_length j a ∙ e) (omega arith) (omega arith))
 
 -- WHAT IS FETCHED into both rings: over the arrays, and over their parts
 abbrev through : Bool → List ℕ → List ℕ → Ring → Ring

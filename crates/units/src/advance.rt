@@ -45,11 +45,32 @@ fn slide(op: Operation, indices: &mut [usize; INDEX_COUNT])
 {
     if is_chroma(op) {
         crate::chroma::slide_both(indices);
-        return;
+    } else {
+        crate::rows::slide(indices, 8);
     }
-    crate::rows::slide(indices, 8);
 }
 
+impl From<(State, Result<usize, Refusal>)> for Advanced {
+    ghost from_gives = { λ r advanced. advanced ≡ advanced_of r.0 r.1 };
+
+    fn from(r: (State, Result<usize, Refusal>)) -> Advanced {
+        let (state, pieces) = r;
+        match pieces {
+            Ok(pieces) => Advanced {
+                status: 0,
+                pieces,
+                state,
+            },
+            Err(refusal) => Advanced {
+                status: refusal.into(),
+                pieces: 0,
+                state,
+            },
+        }
+    }
+}
+
+// C may hand in any state, so its type cannot know what the table found of it: the functions of a row ask it.
 impl State {
     // What a row is restored from: the newest row of each window, and at the start of a block row the classes of its blocks.
     fn take(&mut self, unit: &Unit)
@@ -66,15 +87,9 @@ impl State {
                 lent: unit.lent,
             };
             self.fetch_luma_row(&luma, slot);
-            return;
+        } else if is_classed(unit.op) && self.done % SIDE == 0 {
+            self.block_row(unit);
         }
-        if !is_classed(unit.op) {
-            return;
-        }
-        if self.done % SIDE != 0 {
-            return;
-        }
-        self.block_row(unit);
     }
 
     // One row: what it is restored from, the row restored, the windows moved on.
@@ -115,10 +130,15 @@ impl State {
         ensures { status_from result ≡ status_by op self.now z }
     {
         let other = self.op != number_of(op);
-        if refusals::bad_shape(op, other, self.done, self.given.h, &self.indices, self.next) {
-            return Err(Refusal::State);
-        }
-        if refusals::bad_kept(op, &self.classes, z.filters) {
+        let misshapen = refusals::bad_shape(
+            op,
+            other,
+            self.done,
+            self.given.h,
+            &self.indices,
+            self.next,
+        );
+        if misshapen || refusals::bad_kept(op, &self.classes, z.filters) {
             return Err(Refusal::State);
         }
         refusals::unit_status(op, self.given, z)
@@ -146,17 +166,7 @@ impl State {
         ensures { Answered result p.new (answer (call_of op count (lists_lent op lent.now)) self p.old) }
     {
         let mut state = self;
-        match state.advance_by(op, count, p, lent) {
-            Ok(pieces) => Advanced {
-                status: 0,
-                pieces,
-                state,
-            },
-            Err(refusal) => Advanced {
-                status: refusal.into(),
-                pieces: 0,
-                state,
-            },
-        }
+        let pieces = state.advance_by(op, count, p, lent);
+        (state, pieces).into()
     }
 }

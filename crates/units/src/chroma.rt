@@ -9,20 +9,18 @@ ghost use Rattle.units.specs.Padded.{luma_lent_of};
 ghost use Rattle.units.specs.Step.{Stays};
 
 use crate::State;
-use crate::rows::{first_row, is_own};
+use crate::rows::{first_row, is_own, open_index, slide};
 use crate::unit::LumaRows;
 use definition::{Given, INDEX_COUNT, Operation};
+use std::array::from_fn;
 
 // The first four indices of each ring take the value of the one behind them.
 pub fn slide_both(indices: &mut [usize; INDEX_COUNT])
     requires { length indices.old ≡ index_count }
     ensures { indices.new ≡ slid 4 (take 5 indices.old) ++ slid 4 (drop 5 indices.old) }
 {
-    for j in 0..4 {
-        let k = j + 1;
-        indices[j] = indices[k];
-        indices[5 + j] = indices[5 + k];
-    }
+    slide(&mut indices[..5], 4);
+    slide(&mut indices[5..], 4);
 }
 
 // The five indices that an opening hands out for each ring.
@@ -30,11 +28,7 @@ pub fn open_indices(g: Given) -> [usize; INDEX_COUNT]
     ensures { result ≡ (tab 4 (open_index Chroma g) ++ (0 ∷ [])) ++ (tab 4 (open_index Chroma g) ++ (0 ∷ [])) }
 {
     let f = first_row(Operation::Chroma, g);
-    let a = f;
-    let b = f.max(1);
-    let c = f.max(2);
-    let d = f.max(3);
-    [a, b, c, d, 0, a, b, c, d, 0]
+    from_fn(|j| open_index(f, j % 5, 4))
 }
 
 impl State {

@@ -1,4 +1,4 @@
-// The classes of a block row of a classed unit.
+// The classes of a block row of a classed unit. That it is classed is asked: a type for it would hold the unit, a row of which is padded here, and each contract would go through both for this one fact.
 ghost use Rattle.std.specs.Prelude.{◌≡◌, true, ℕ, ◌+◌, ◌*◌, ◌/◌, ◌%◌, ◌≤◌, ◌<◌, length, get_or, set};
 ghost use Rattle.std.proofs.lemmas.List.Edits.{sets};
 ghost use Rattle.definition.specs.Blocks.{side};
@@ -15,7 +15,7 @@ use crate::unit::Unit;
 use class_index::Place;
 use definition::SIDE;
 
-// The class of a block, by its features.
+// The class of a block, by its features. A u32 has no From to usize; the index is below the map's size.
 fn class_of(unit: &Unit, sums: [u16; 3], place: Place) -> u8
     requires op_value { classed unit.now.op ≡ true }
     requires placed { (place.bx ≤ last_column) × (place.by < place.bh) × (place.bh ≤ block_row_limit) × (place.bh ≤ length unit.now.lent.now.noskip.now) }

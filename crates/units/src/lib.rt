@@ -54,7 +54,7 @@ impl From<Result<State, Refusal>> for Opened {
     }
 }
 
-// What an advance hands back.
+// What an advance hands C: the state comes back in refused calls too.
 #[repr(C)]
 #[derive(Clone, Copy)]
 pub struct Advanced {

@@ -1,5 +1,5 @@
 // The ring of padded rows: a row is padded into a slot, and ten indices say which slot holds which row of the window.
-ghost use Rattle.std.specs.Prelude.{◌≡◌, [], ◌∷◌, ◌++◌, ◌+◌, ◌*◌, ◌-◌, ◌≤◌, ◌<◌, length, replicate, pos};
+ghost use Rattle.std.specs.Prelude.{◌≡◌, [], ◌∷◌, ◌++◌, cond, ltb, max, ◌+◌, ◌*◌, ◌-◌, ◌≤◌, ◌<◌, length, replicate, pos};
 ghost use Rattle.std.proofs.lemmas.List.Edits.{sets};
 ghost use Rattle.definition.specs.Limits.{height_limit};
 ghost use Rattle.definition.specs.Rows.{tab, row_bytes, row_origin, index_count, state_bytes};
@@ -18,6 +18,7 @@ use crate::unit::Unit;
 use bounds::is_set;
 use definition::{Given, INDEX_COUNT, Operation, ROW_BYTES, ROW_ORIGIN, STATE_BYTES};
 use operations::{border_of, top_rows};
+use std::array::from_fn;
 
 // Rows below the unit that are padded anew: the plane's own, or saved ones.
 fn rows_below(op: Operation, edges: usize) -> usize
@@ -54,7 +55,7 @@ impl<'a> Unit<'a> {
         let e = border_of(self.op);
         let at = g.off + y * g.stride;
         let mut row = [0u8; ROW_BYTES];
-        let _ = padding::backup_row_8bpc(
+        padding::backup_row_8bpc(
             &mut row,
             ROW_ORIGIN,
             self.plane,
@@ -64,7 +65,8 @@ impl<'a> Unit<'a> {
             g.w,
             e,
             g.edges,
-        );
+        )
+        .unwrap();
         row
     }
 
@@ -76,7 +78,7 @@ impl<'a> Unit<'a> {
         let g = self.given;
         let e = border_of(self.op);
         let mut row = [0u8; ROW_BYTES];
-        let _ = padding::backup_row_lpf_8bpc(&mut row, ROW_ORIGIN, src, at, g.w, e, g.edges);
+        padding::backup_row_lpf_8bpc(&mut row, ROW_ORIGIN, src, at, g.w, e, g.edges).unwrap();
         row
     }
 
@@ -144,33 +146,27 @@ fn next_slot(slot: usize, n: usize) -> usize
     if slot + 1 == n { 0 } else { slot + 1 }
 }
 
+// Index j of a window of which n rows are padded before the first row: row j, or, before row f, row f.
+pub fn open_index(f: usize, j: usize, n: usize) -> usize
+    ensures { result ≡ cond (ltb j n) (max j f) 0 }
+{
+    if j < n { j.max(f) } else { 0 }
+}
+
 // The indices that an opening of a luma or classed unit hands out.
 pub fn open_indices(op: Operation, g: Given) -> [usize; INDEX_COUNT]
     ensures { result ≡ tab 8 (open_index op g) ++ (0 ∷ 0 ∷ []) }
 {
     let f = first_row(op, g);
-    [
-        f,
-        f.max(1),
-        f.max(2),
-        f.max(3),
-        f.max(4),
-        f.max(5),
-        f.max(6),
-        f.max(7),
-        0,
-        0,
-    ]
+    from_fn(|j| open_index(f, j, 8))
 }
 
-// Each of the first m indices takes the value of the one behind it. The library has no copy within a list.
-pub fn slide(indices: &mut [usize; INDEX_COUNT], m: usize)
-    requires { m < index_count }
+// Each of the first m indices takes the value of the one behind it.
+pub fn slide(indices: &mut [usize], m: usize)
+    requires { m < length indices.old }
     ensures { indices.new ≡ slid m indices.old }
 {
-    for j in 0..m {
-        indices[j] = indices[j + 1];
-    }
+    indices.copy_within(1..m + 1, 0);
 }
 
 impl State {

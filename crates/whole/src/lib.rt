@@ -1,5 +1,5 @@
-// looprestoration.rs: the whole-unit operations, ns_wiener_single_y_8bpc, ns_wiener_multi_8bpc, pc_wiener_8bpc and ns_wiener_single_uv_8bpc. Each opens a unit and
-// advances it by all its rows.
+// looprestoration.rs: the whole-unit operations, ns_wiener_single_y_8bpc, ns_wiener_multi_8bpc, pc_wiener_8bpc and ns_wiener_single_uv_8bpc. All four
+// are one function, which opens a unit and advances it by all its rows.
 #![tactic(auto)]
 
 ghost use Rattle.std.specs.Prelude.{◌≡◌};

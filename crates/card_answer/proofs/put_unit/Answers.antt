@@ -8,9 +8,11 @@ use Rattle.card_answer.proofs.put_unit.Goals as goal
 pub put_rows-requires : goal.put_rows-requires
 put_rows-requires c =
     let lh = (is-sized height_limit c.args.card.now.h c.requires.1).high in
+    let w = is-sized width_limit c.args.card.now.w c.requires.0 in
     let k = ap length c.restore-pieces.ensures.plane_after ∙ plane-long _ _ _ _ _ in (
       omega (arith, head_grows _ _ _ c.put_head.ensures, c.requires.2, lh),
-      (is-sized width_limit c.args.card.now.w c.requires.0).high,
+      omega (arith, w.low),
+      w.high,
       omega (arith, k),
     )
 

@@ -7,9 +7,12 @@ use lib.ListN.{length}
 use Rattle.definition.specs.Rows.{luma_flat}
 use Rattle.definition.specs.Sample.{limit8, luma_sample}
 use Rattle.definition.specs.Leaves.{coefficients}
-use Rattle.filter.proofs.Statuses.{run_inside, eight_from}
+use Rattle.filter.proofs.Statuses.{run_inside, eight_inside}
 use Rattle.filter.proofs.Writes.{done}
 use Rattle.filter.proofs.ns_wiener_fir_run.Goals as goal
+
+pub invariant_of-own-clause-inside : goal.invariant_of-own-clause-inside
+invariant_of-own-clause-inside c = (run_inside (length c.args.dst.now) c.args.rows.now c.args.indices.now c.args.col0 c.args.n (sym c.in_ok-run_status.ensures)).inside
 
 pub run-requires-clause-room : goal.run-requires-clause-room
 run-requires-clause-room c =
@@ -19,7 +22,7 @@ run-requires-clause-room c =
 pub run-requires-clause-callable : goal.run-requires-clause-callable
 run-requires-clause-callable c =
     let h = run_inside (length c.args.dst.now) c.args.rows.now c.args.indices.now c.args.col0 c.args.n (sym c.in_ok-run_status.ensures) in
-    λ at l m. let eight = eight_from 64 at h l m (omega arith) (omega arith) in search rules
+    λ at l m. let eight = eight_inside 64 at h l m (omega arith) (omega arith) in search rules
 
 pub returns-clause-dst_after : goal.returns-clause-dst_after
 returns-clause-dst_after c =

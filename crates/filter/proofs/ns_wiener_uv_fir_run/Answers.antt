@@ -12,7 +12,7 @@ use Rattle.definition.specs.Leaves.{uv_status, chroma_run}
 use Rattle.filter.specs.Gathered.{Gathered, compact_sample}
 use Rattle.laws.proofs.Lists.{tab_cong}
 use Rattle.filter.proofs.Gathering.{gathered-run}
-use Rattle.filter.proofs.Statuses.{UvInside, uv_inside, eight_from}
+use Rattle.filter.proofs.Statuses.{UvInside, uv_inside, eight_inside}
 use Rattle.filter.proofs.Writes.{done}
 use Rattle.filter.proofs.ns_wiener_uv_fir_run.Goals as goal
 
@@ -52,6 +52,12 @@ pub overflow_sub-lcol0 : goal.overflow_sub-lcol0
 overflow_sub-lcol0 c =
     omega (arith, (fits c.args.dst.now c.args.rows.now c.args.indices.now c.args.col0 c.args.lcol0 c.args.step c.args.n (sym c.in_ok-uv_status.ensures)).behind)
 
+pub invariant_of-own-clause-inside : goal.invariant_of-own-clause-inside
+invariant_of-own-clause-inside c = (fits c.args.dst.now c.args.rows.now c.args.indices.now c.args.col0 c.args.lcol0 c.args.step c.args.n (sym c.in_ok-uv_status.ensures)).itself.inside
+
+pub invariant_of-own-2-clause-inside : goal.invariant_of-own-2-clause-inside
+invariant_of-own-2-clause-inside c = (fits c.args.dst.now c.args.rows.now c.args.indices.now c.args.col0 c.args.lcol0 c.args.step c.args.n (sym c.in_ok-uv_status.ensures)).itself.inside
+
 pub gather-compact-requires : goal.gather-compact-requires
 gather-compact-requires c =
     (fits c.args.dst.now c.args.rows.now c.args.indices.now c.args.col0 c.args.lcol0 c.args.step c.args.n (sym c.in_ok-uv_status.ensures)).luma
@@ -64,7 +70,7 @@ run-requires-clause-room c =
 pub run-requires-clause-callable : goal.run-requires-clause-callable
 run-requires-clause-callable c =
     let h = (fits c.args.dst.now c.args.rows.now c.args.indices.now c.args.col0 c.args.lcol0 c.args.step c.args.n (sym c.in_ok-uv_status.ensures)).itself in
-    λ at l m. let eight = eight_from 66 at h l m (omega arith) (omega arith) in let before : c.args.col0 ≤ at + 8 = omega (arith, h.right) in
+    λ at l m. let eight = eight_inside 66 at h l m (omega arith) (omega arith) in let before : c.args.col0 ≤ at + 8 = omega (arith, h.right) in
     let left = h.left in search rules
 
 pub returns-then-worth_groups-clause-dst_after : goal.returns-then-worth_groups-clause-dst_after
@@ -83,7 +89,7 @@ run-requires-2-clause-room c =
 pub run-requires-2-clause-callable : goal.run-requires-2-clause-callable
 run-requires-2-clause-callable c =
     let h = (fits c.args.dst.now c.args.rows.now c.args.indices.now c.args.col0 c.args.lcol0 c.args.step c.args.n (sym c.in_ok-uv_status.ensures)).itself in
-    λ at l m. let eight = eight_from 66 at h l m (omega arith) (omega arith) in let before : c.args.col0 ≤ at + 8 = omega (arith, h.right) in
+    λ at l m. let eight = eight_inside 66 at h l m (omega arith) (omega arith) in let before : c.args.col0 ≤ at + 8 = omega (arith, h.right) in
     let left = h.left in search rules
 
 pub returns-clause-dst_after : goal.returns-clause-dst_after

@@ -8,4 +8,4 @@ use Rattle.features.proofs.Rows.column_sums.Given as goal
 abbrev pub invariant-loop-k : goal.invariant-loop-k
 invariant-loop-k l =
     (length l.out ≡ column_count) ×
-    ((j : ℕ) → l.m ≤ j → j < l.k → (get_or l.out j 0 ≡ column_sum l.self.bytes.now l.self.indices.now (l.a + j) (3 + j) (l.z + j)) × (get_or l.out j 0 ≤ column_limit))
+    ((j : ℕ) → l.m ≤ j → j < l.k → (get_or l.out j 0 ≡ column_sum l.self.bytes.now l.self.indices.now (l.d.a + j) (3 + j) (l.d.z + j)) × (get_or l.out j 0 ≤ column_limit))

@@ -8,5 +8,5 @@ use Rattle.features.proofs.Rows.feature.Goals as goal
 pub returns : goal.returns
 returns c =
     c.six.ensures ∙
-    feature-is c.args.self.now.bytes.now c.args.self.now.indices.now c.column_sums-columns.result c.args.a c.args.z c.args.bx (omega arith)
+    feature-is c.args.self.now.bytes.now c.args.self.now.indices.now c.column_sums-columns.result c.args.d.a c.args.d.z c.args.bx (omega arith)
     (λ j h. (c.column_sums-columns.ensures (2 + 4 * c.args.bx + j) (omega arith) (omega arith)).0)

@@ -8,4 +8,4 @@ use Rattle.features.proofs.Rows.feature_row.Given as goal
 
 abbrev pub invariant-loop-bx : goal.invariant-loop-bx
 invariant-loop-bx l =
-    (length l.out ≡ block_column_limit) × (l.out ≡ feature_row l.bx (feature_at l.self.bytes.now l.self.indices.now (pos l.a -ℤ pos 3)))
+    (length l.out ≡ block_column_limit) × (l.out ≡ feature_row l.bx (feature_at l.self.bytes.now l.self.indices.now (pos l.fn.d.a -ℤ pos 3)))

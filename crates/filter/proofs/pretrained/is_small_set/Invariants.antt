@@ -4,6 +4,6 @@ use Prim.Native.Nat.{◌≤◌}
 use Rattle.filter.specs.Groups.{Small}
 use Rattle.filter.proofs.pretrained.is_small_set.Given as goal
 
-abbrev pub invariant-loop-k : goal.invariant-loop-k
-invariant-loop-k l =
-    (l.found ≤ l.k) × (l.found ≡ 0 → Small l.k l.filter)
+abbrev pub invariant-loop-c : goal.invariant-loop-c
+invariant-loop-c l =
+    (l.found ≤ l.c-index) × (l.found ≡ 0 → Small l.c-index l.filter)

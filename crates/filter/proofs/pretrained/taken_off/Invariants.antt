@@ -6,5 +6,5 @@ use Rattle.definition.specs.Numbers.{sum_z}
 use Rattle.definition.specs.Leaves.{coefficients}
 use Rattle.filter.proofs.pretrained.taken_off.Given as goal
 
-abbrev pub invariant-loop-k : goal.invariant-loop-k
-invariant-loop-k l = (l.s ≡ sum_z l.k (coefficients l.filter)) × (nat_abs l.s ≤ l.k * 32768)
+abbrev pub invariant-loop-c : goal.invariant-loop-c
+invariant-loop-c l = (l.s ≡ sum_z l.c-index (coefficients l.filter)) × (nat_abs l.s ≤ l.c-index * 32768)

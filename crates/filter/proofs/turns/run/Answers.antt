@@ -1,13 +1,9 @@
 -- `filter::turns::run` meets its contract: after each turn the first x samples are written.
 use native.Mathlib.Omega.{arith}
-use mathlib.Core.Path.{refl, ap, ◌∙◌}
-use Prim.Native.Nat.{zero-le}
+use mathlib.Core.Path.{ap, ◌∙◌}
 use lib.Seq.{length-sets}
-use Rattle.filter.proofs.Writes.{none_yet, one_turn, written}
+use Rattle.filter.proofs.Writes.{one_turn}
 use Rattle.filter.proofs.turns.run.Goals as goal
-
-pub loop-x-init : goal.loop-x-init
-loop-x-init g c = (zero-le, refl, λ f h. none_yet c.requires.room.0)
 
 pub loop-x-preserved : goal.loop-x-preserved
 loop-x-preserved g c = (
@@ -18,6 +14,3 @@ loop-x-preserved g c = (
       (λ j i k l p.
       h.sample c.next_turn-t.result.at c.eight_from.result (omega (arith, c.next_turn-t.ensures.first)) (omega (arith, c.next_turn-t.ensures.first)) c.eight_from.ensures j k ∙ ap f p),
 )
-
-pub returns : goal.returns
-returns g c = λ f h. written (c.loop-x.invariant.2 f h) c.loop-x-test.false

@@ -12,27 +12,19 @@ use Rattle.model.proofs.Cells.{cell_of}
 use Rattle.units.specs.Restored.{columns_of, seen}
 use Rattle.units.proofs.Firsts.{ClassStretch, class_stretch, all-kept}
 use Rattle.units.proofs.Samples.{told_sets, told_cells}
-use Rattle.units.proofs.Stretches.{none_done, kept_more, run_more, row_done}
+use Rattle.units.proofs.Stretches.{kept_more, run_more, row_done}
 use Rattle.units.proofs.State.restore.Goals as goal
-
-pub loop-bx-init : goal.loop-bx-init
-loop-bx-init c =
-    (omega arith, none_done c.args.p.now _ c.mask_of_row-mask.result _)
 
 pub overflow_mul-end : goal.overflow_mul-end
 overflow_mul-end c =
-    let s-is : c.unwrap-s.result.start ≡ stretch_start c.mask_of_row-mask.result c.loop-bx.bx (c.args.self.now.given.w / side) = search rules in
-    let e-is : c.unwrap-s.result.end ≡ end_from c.mask_of_row-mask.result c.told_apart-told.result (stretch_start c.mask_of_row-mask.result c.loop-bx.bx (c.args.self.now.given.w / side)) (c.args.self.now.given.w / side) = search rules in
     let e : ClassStretch c.mask_of_row-mask.result c.told_apart-told.result c.loop-bx.bx (c.args.self.now.given.w / side) c.unwrap-s.result.start c.unwrap-s.result.end =
-    class_stretch c.mask_of_row-mask.result c.told_apart-told.result c.loop-bx.bx (c.args.self.now.given.w / side) c.unwrap-s.result.start (omega (arith, c.requires.wide)) c.loop-bx.invariant.0 s-is c.unwrap-s.result.end c.if-start-bw.true e-is in
+    class_stretch _ _ _ _ _ (omega (arith, c.requires.wide)) c.loop-bx.invariant.0 (search rules) _ c.if-start-bw.true (search rules) in
     record { fits = omega (arith, e.low, c.requires.wide) }
 
 pub run-requires-clause-x0_le_x1 : goal.run-requires-clause-x0_le_x1
 run-requires-clause-x0_le_x1 c =
-    let s-is : c.unwrap-s.result.start ≡ stretch_start c.mask_of_row-mask.result c.loop-bx.bx (c.args.self.now.given.w / side) = search rules in
-    let e-is : c.unwrap-s.result.end ≡ end_from c.mask_of_row-mask.result c.told_apart-told.result (stretch_start c.mask_of_row-mask.result c.loop-bx.bx (c.args.self.now.given.w / side)) (c.args.self.now.given.w / side) = search rules in
     let e : ClassStretch c.mask_of_row-mask.result c.told_apart-told.result c.loop-bx.bx (c.args.self.now.given.w / side) c.unwrap-s.result.start c.unwrap-s.result.end =
-    class_stretch c.mask_of_row-mask.result c.told_apart-told.result c.loop-bx.bx (c.args.self.now.given.w / side) c.unwrap-s.result.start (omega (arith, c.requires.wide)) c.loop-bx.invariant.0 s-is c.unwrap-s.result.end c.if-start-bw.true e-is in
+    class_stretch _ _ _ _ _ (omega (arith, c.requires.wide)) c.loop-bx.invariant.0 (search rules) _ c.if-start-bw.true (search rules) in
     (omega (arith, e.some), omega (arith, e.low, c.requires.wide), omega (arith, e.low, c.requires.room, c.loop-bx.invariant.1.same))
 
 pub run-requires-clause-has_set : goal.run-requires-clause-has_set
@@ -41,18 +33,14 @@ run-requires-clause-has_set c =
 
 pub loop-bx-smaller-then-start-bw : goal.loop-bx-smaller-then-start-bw
 loop-bx-smaller-then-start-bw c =
-    let s-is : c.unwrap-s.result.start ≡ stretch_start c.mask_of_row-mask.result c.loop-bx.bx (c.args.self.now.given.w / side) = search rules in
-    let e-is : c.unwrap-s.result.end ≡ end_from c.mask_of_row-mask.result c.told_apart-told.result (stretch_start c.mask_of_row-mask.result c.loop-bx.bx (c.args.self.now.given.w / side)) (c.args.self.now.given.w / side) = search rules in
     let e : ClassStretch c.mask_of_row-mask.result c.told_apart-told.result c.loop-bx.bx (c.args.self.now.given.w / side) c.unwrap-s.result.start c.unwrap-s.result.end =
-    class_stretch c.mask_of_row-mask.result c.told_apart-told.result c.loop-bx.bx (c.args.self.now.given.w / side) c.unwrap-s.result.start (omega (arith, c.requires.wide)) c.loop-bx.invariant.0 s-is c.unwrap-s.result.end c.if-start-bw.true e-is in
+    class_stretch _ _ _ _ _ (omega (arith, c.requires.wide)) c.loop-bx.invariant.0 (search rules) _ c.if-start-bw.true (search rules) in
     omega (arith, e.some, e.from, e.low)
 
 pub loop-bx-preserved-then-start-bw : goal.loop-bx-preserved-then-start-bw
 loop-bx-preserved-then-start-bw c =
-    let s-is : c.unwrap-s.result.start ≡ stretch_start c.mask_of_row-mask.result c.loop-bx.bx (c.args.self.now.given.w / side) = search rules in
-    let e-is : c.unwrap-s.result.end ≡ end_from c.mask_of_row-mask.result c.told_apart-told.result (stretch_start c.mask_of_row-mask.result c.loop-bx.bx (c.args.self.now.given.w / side)) (c.args.self.now.given.w / side) = search rules in
     let e : ClassStretch c.mask_of_row-mask.result c.told_apart-told.result c.loop-bx.bx (c.args.self.now.given.w / side) c.unwrap-s.result.start c.unwrap-s.result.end =
-    class_stretch c.mask_of_row-mask.result c.told_apart-told.result c.loop-bx.bx (c.args.self.now.given.w / side) c.unwrap-s.result.start (omega (arith, c.requires.wide)) c.loop-bx.invariant.0 s-is c.unwrap-s.result.end c.if-start-bw.true e-is in
+    class_stretch _ _ _ _ _ (omega (arith, c.requires.wide)) c.loop-bx.invariant.0 (search rules) _ c.if-start-bw.true (search rules) in
     let by : ℕ → ℕ → ℕ = λ cls x. seen c.args.op c.args.self.now (lists_lent c.args.op c.args.lent.now) cls x in (
       e.low,
       run_more (by (get_or c.told_apart-told.result c.unwrap-s.result.start 0)) (omega (arith, e.some)) e.clear (kept_more e.from e.kept c.loop-bx.invariant.1) c.run.ensures

@@ -4,9 +4,6 @@ use Rattle.definition.specs.Calls.{lists_lent}
 use Rattle.units.proofs.OneRow.{restorable, taken-sound, slid-sound, stepped}
 use Rattle.units.proofs.State.row.Goals as goal
 
-pub invariant_of-unit : goal.invariant_of-unit
-invariant_of-unit c = record { inside = c.requires.fit.sources }
-
 pub restore-requires : goal.restore-requires
 restore-requires c =
     let s = c.args.self.now in

@@ -1,5 +1,5 @@
 -- `classed::class_of` meets its contract: the call for the index is not refused, and the index is below the map's size.
-use Rattle.std.proofs.Common.{◌≡◌, ◌∙◌, ap, ℕ, ◌*◌, rules}
+use Rattle.std.proofs.Common.{◌≡◌, ◌∙◌, ◌*◌, rules}
 use Rattle.std.specs.Prelude.{length, get_or}
 use Rattle.definition.specs.ClassIndex.{skip_factor, skip_sum, index_of}
 use Rattle.laws.proofs.Answers.{served}
@@ -28,11 +28,3 @@ bounds-l-from c =
     let m = c.args.unit.now.inside.mapped c.requires.op_value in
     let i-is : c.unwrap-index.result ≡ index_of (get_or s 0 0) (get_or s 1 0) (get_or s 2 0) l.q (skip_factor * skip_sum l.noskip p.bh p.bx p.by) = search rules in
     rw c.from.ensures (entry_low l.map (length l.subclass) c.unwrap-index.result (rw (m.size, i-is) (index-low _ _ _ _ _)) m.maps)
-
-pub returns : goal.returns
-returns c =
-    let l = lent_of c.args.unit.now in
-    let p = c.args.place in
-    let s = c.args.sums in
-    let i-is : c.unwrap-index.result ≡ index_of (get_or s 0 0) (get_or s 1 0) (get_or s 2 0) l.q (skip_factor * skip_sum l.noskip p.bh p.bx p.by) = search rules in
-    ap (λ (k : ℕ). get_or l.subclass k 0) (c.from.ensures ∙ ap (λ (k : ℕ). get_or l.map k 0) i-is)

@@ -1,19 +1,78 @@
-use Rattle.std.proofs.Common.{◌≡◌, sym, ap, ◌∙◌, ◌+◌, ◌-◌, ◌*◌, ◌++◌, append-nil, arith, length, length-append}
+use Rattle.std.proofs.Common.{◌≡◌, sym, ap, ◌∙◌, ◌+◌, ◌-◌, ◌*◌, ◌≤◌, ◌<◌, ◌++◌, ℕ, List, min, append-nil, arith, length, take, length-append}
+use native.Mathlib.Decide.{dec_lt}
+use native.Mathlib.Nat.{zero-mul, add-mul, one-mul}
+use lib.ListN.{drop, length-drop}
+use lib.Seq.{drop-drop}
 use Rattle.definition.specs.Card.{rows_text}
-use Rattle.card_laws.proofs.Planes.{in_plane, part-long}
+use Rattle.card_laws.proofs.Planes.{in_plane, front, behind}
 use Rattle.card_answer.proofs.Texts.{rows_none, rows_more, rows_short}
 use Rattle.card_answer.proofs.text.Answer.put_rows.Goals as goal
 
-pub loop-y-init : goal.loop-y-init
-loop-y-init c = sym (ap (λ l. c.args.self.now ++ l) (rows_none c.args.w c.args.plane.now) ∙ append-nil c.args.self.now)
+-- a row that comes off the front of what is left of a plane behind y rows
+record Row (w y : ℕ) (plane row rest : List ℕ) : Type 0 where
+  long : length row ≡ w
+  is : row ≡ take w (drop (y * w) plane)
+  behind_it : rest ≡ drop ((y + 1) * w) plane
+
+row_of : (w y h : ℕ) (plane row rest left : List ℕ) → y < h → w * h ≤ length plane → left ≡ drop (y * w) plane → left ≡ row ++ rest → length row ≡ min w (length left) → Row w y plane row rest
+row_of w y h plane row rest left low room is e size =
+    let l : length row ≡ w = omega (arith, size, ap length is, length-drop (y * w) plane, in_plane y w h (length plane) low room) in
+    let k : y * w + w ≡ (y + 1) * w = omega (arith, add-mul y 1 w, one-mul w) in
+    record {
+      long = l;
+      is = sym (front row rest w l) ∙ ap (take w) (sym e ∙ is);
+      behind_it = sym (behind row rest w l) ∙ ap (drop w) (sym e ∙ is) ∙ drop-drop w (y * w) plane ∙ ap (λ n. drop n plane) k;
+    }
+
+pub loop-row-init : goal.loop-row-init
+loop-row-init c =
+    let i = c.into_iter-row-iterator.ensures.into_iter_gives in
+    let t = c.take-row-items.ensures in
+    let n : c.into_iter-row-iterator.result.n ≡ c.args.h = ap (λ r. r.n) i ∙ t.count in
+    let y : c.args.h - c.into_iter-row-iterator.result.n ≡ 0 = omega (arith, n) in
+    let source : c.into_iter-row-iterator.result.iter ≡ c.chunks.result = ap (λ r. r.iter) i ∙ t.source in
+    rw (y, zero-mul c.args.w) (
+      sym (ap (λ l. c.args.self.now ++ l) (rows_none c.args.w c.args.plane.now) ∙ append-nil c.args.self.now),
+      omega (arith, n),
+      ap (λ r. r.size) source ∙ c.chunks.ensures.size,
+      ap (λ r. r.rest.now) source ∙ c.chunks.ensures.rest,
+    )
 
 pub put_row-requires : goal.put_row-requires
 put_row-requires c =
-    let y = c.loop-y.y in
-    let l = part-long y c.args.w c.args.plane.now (in_plane y c.args.w c.args.h (length c.args.plane.now) c.loop-y-test.true c.requires.2) in
-    omega (arith, ap length c.loop-y.invariant, length-append c.args.self.now (rows_text c.args.w c.args.plane.now y), rows_short c.args.w c.args.plane.now y c.requires.1, c.loop-y-test.true, c.requires, l)
+    let s = c.in-Some.ensures.steps in
+    let v = c.loop-row.invariant in
+    let y = c.args.h - c.loop-row.row-iterator.n in
+    let r = row_of c.args.w y c.args.h c.args.plane.now _ _ _ (omega (arith, s.1, v.1)) c.requires.3 v.3 s.0.1.0 (rw v.2 at s.0.1.1) in
+    omega
+    (arith, ap length v.0, length-append c.args.self.now (rows_text c.args.w c.args.plane.now y), rows_short c.args.w c.args.plane.now y c.requires.2, r.long, s.1, v.1, c.requires.0, c.requires.2)
 
-pub loop-y-preserved : goal.loop-y-preserved
-loop-y-preserved c =
-    let k : c.loop-y.y * c.args.w + c.args.w - c.loop-y.y * c.args.w ≡ c.args.w = omega arith in
-    rows_more c.args.w c.loop-y.y c.args.plane.now _ _ _ c.loop-y.invariant (rw k at c.put_row.ensures)
+pub loop-row-preserved : goal.loop-row-preserved
+loop-row-preserved c =
+    let s = c.in-Some.ensures.steps in
+    let v = c.loop-row.invariant in
+    let y = c.args.h - c.loop-row.row-iterator.n in
+    let r = row_of c.args.w y c.args.h c.args.plane.now _ _ _ (omega (arith, s.1, v.1)) c.requires.3 v.3 s.0.1.0 (rw v.2 at s.0.1.1) in
+    let next : c.args.h - c.next.new.self.n ≡ y + 1 = omega (arith, s.1, v.1) in
+    rw next (
+      rows_more c.args.w y c.args.plane.now _ _ _ v.0 (rw r.is at c.put_row.ensures),
+      omega (arith, s.1, v.1),
+      s.0.0 ∙ v.2,
+      r.behind_it,
+    )
+
+pub returns : goal.returns
+returns c =
+    let v = c.loop-row.invariant in
+    let w = c.args.w in
+    let h = c.args.h in
+    let y = h - c.loop-row.row-iterator.n in
+    let all : y ≡ h =
+    elim (dec_lt 0 c.loop-row.row-iterator.n) [
+      | yes lt ↦
+          let plane = c.args.plane.now in
+          absurd
+          (omega (arith, (c.in-None.ensures.steps lt).1, ap length v.3, length-drop (y * w) plane, in_plane y w h (length plane) (omega (arith, lt, v.1)) c.requires.3, c.requires.1))
+      | no ge ↦ omega arith
+    ] in
+    rw all at v.0

@@ -9,9 +9,6 @@ use Rattle.padding.proofs.Filled.{WholeSteps, whole_more, columns_more}
 use Rattle.padding.proofs.backup_row_luma.Sampling.fill_columns.Goals.{else-loop-j-test, then-loop-j-test+else-j-step-n}
 use Rattle.padding.proofs.backup_row_luma.Sampling.fill_columns.Goals as goal
 
-pub f-requires : goal.f-requires
-f-requires g c = c.requires.callable c.loop-j.j c.loop-j-test.true c.loop-j.invariant.steps.even
-
 pub loop-j-preserved : goal.loop-j-preserved
 loop-j-preserved g c =
     let s = c.loop-j.invariant.steps in

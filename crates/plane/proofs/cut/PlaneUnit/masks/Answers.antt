@@ -2,18 +2,15 @@
 use mathlib.Core.Path.{◌≡◌, ◌∙◌}
 use mathlib.Core.Bool.{cond}
 use mathlib.Core.List.{List}
-use Prim.Native.Nat.{ℕ, ◌+◌, ◌*◌, ◌/◌, ◌%◌, ◌≤◌, ◌<◌}
-use native.Mathlib.Nat.{mul-le-mul}
+use Prim.Native.Nat.{ℕ, ◌+◌, ◌*◌, ◌/◌, ◌%◌, ◌<◌}
 use native.Mathlib.Decide.{ℕ_discrete}
 use native.Mathlib.Omega.{arith}
 use lib.Dec.{ltb}
 use lib.ListN.{length, get_or, length-set}
 use lib.Seq.{get_or-set_same, get_or-set_other}
 use Rattle.definition.specs.Blocks.{side}
-use Rattle.definition.specs.Limits.{plane_side_limit}
 use Rattle.definition.specs.Planes.{mask_bits, skip_numbers}
 use Rattle.plane_laws.proofs.Cut.{gathered, unit_mask}
-use Rattle.plane_laws.proofs.Masks.{low-inside, high_inside}
 use Rattle.plane.proofs.cut.PlaneUnit.masks.Goals as goal
 
 -- the number that holds a block, and the one behind it, are those of the mask
@@ -21,22 +18,6 @@ mask_is : (skip : List ℕ) (w bw by bx : ℕ) {numbers : ℕ} → numbers ≡ s
     gathered (get_or skip (by * numbers + bx / mask_bits) 0) (cond (ltb mask_bits (bx % mask_bits + bw)) (get_or skip (by * numbers + bx / mask_bits + 1) 0) 0) (bx % mask_bits) ≡ unit_mask w skip bw by bx
 unfolding unit_mask
 mask_is skip w bw by bx e = rw e
-
--- where the number of a block row stands, and that it fits
-number_low : (row numbers : ℕ) → row ≤ plane_side_limit → numbers ≤ plane_side_limit → row * numbers ≤ plane_side_limit * plane_side_limit
-number_low row numbers r n = mul-le-mul r n
-
-pub gather-requires : goal.gather-requires
-gather-requires c =
-    let l = c.args.self.now.lies in
-    let by : c.args.self.now.y / side + c.loop-j.j < c.args.self.now.h / side = omega (arith, c.loop-j-test.true, l.low) in
-    let bx : c.args.self.now.x / side < c.args.self.now.w / side = omega (arith, l.far, l.some_w) in
-    rw c.skip_numbers-numbers.ensures (
-      omega (arith, low-inside c.args.self.now.w c.args.self.now.h (c.args.self.now.y / side + c.loop-j.j) (c.args.self.now.x / side) by bx, c.requires),
-      omega arith,
-      omega (arith, l.narrow),
-      λ more. omega (arith, high_inside c.args.self.now.w c.args.self.now.h (c.args.self.now.y / side + c.loop-j.j) (c.args.self.now.x / side) by (c.args.self.now.uw / side) (omega (arith, l.narrow)) (omega (arith, l.far)) more, c.requires),
-    )
 
 pub loop-j-preserved : goal.loop-j-preserved
 loop-j-preserved c =
@@ -47,7 +28,7 @@ loop-j-preserved c =
             | yes e ↦
                 rw e
                 (get_or-set_same c.loop-j.r (4 * c.loop-j.j) c.gather.result 0 room ∙
-                (c.gather.ensures ∙ mask_is c.args.skip.now c.args.self.now.w (c.args.self.now.uw / side) (c.args.self.now.y / side + c.loop-j.j) (c.args.self.now.x / side) c.skip_numbers-numbers.ensures))
+                (c.gather.ensures ∙ mask_is c.args.self.now.plane.skip.now c.args.self.now.plane.w (c.args.self.now.w / side) (c.args.self.now.y / side + c.loop-j.j) (c.args.self.now.x / side) c.skip_numbers-numbers.ensures))
             | no ne ↦ get_or-set_other c.loop-j.r (4 * c.loop-j.j) (4 * i) c.gather.result 0 (omega arith) ∙ c.loop-j.invariant.1 i (omega arith)
           ],
     )

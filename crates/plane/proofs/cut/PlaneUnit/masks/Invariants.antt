@@ -9,4 +9,4 @@ use Rattle.plane.proofs.cut.PlaneUnit.masks.Given as goal
 
 abbrev pub invariant-loop-j : goal.invariant-loop-j
 invariant-loop-j l =
-    (length l.r ≡ unit_size_limit) × ((i : ℕ) → i < l.j → get_or l.r (4 * i) 0 ≡ unit_mask l.self.w l.skip (l.self.uw / side) (l.self.y / side + i) (l.self.x / side))
+    (length l.r ≡ unit_size_limit) × ((i : ℕ) → i < l.j → get_or l.r (4 * i) 0 ≡ unit_mask l.self.plane.w l.self.plane.skip.now (l.self.w / side) (l.self.y / side + i) (l.self.x / side))

@@ -1,7 +1,5 @@
 -- `Unit::padded_row` meets its contract: above the unit a saved row, of which `Sources` has that it lies inside and is the definition's; else what `lower_row` gives.
-use Rattle.std.proofs.Common.{◌≡◌, ◌∙◌, refl, ap, ℕ, ◌+◌, ◌-◌, arith}
-use Rattle.definition.specs.Units.{border}
-use Rattle.units.specs.Padded.{padded}
+use Rattle.std.proofs.Common.{◌∙◌, refl, ap, ℕ, ◌-◌, arith}
 use Rattle.units.proofs.Sources.{top_fits, top-is}
 use Rattle.units.proofs.unit.Unit.padded_row.Goals as goal
 
@@ -13,8 +11,3 @@ saved_row-requires c =
 pub returns-then-r-e : goal.returns-then-r-e
 returns-then-r-e c =
     c.saved_row.ensures ∙ top-is _ _ _ _ c.args.r refl (ap (λ (n : ℕ). c.args.r - n) c.first_row.ensures) c.requires.0 (omega arith)
-
-pub returns : goal.returns
-returns c =
-    let d : c.args.r - c.border_of-e.result + border c.args.self.now.op ≡ c.args.r = omega arith in
-    c.lower_row.ensures ∙ ap (padded c.args.self.now) d
