@@ -7,7 +7,7 @@ ghost use Rattle.filter.specs.Groups.{small_limit, narrow_limit, Small};
 // Three taps of numbers up to this are at most 3 * 510 * 21 = 32,130, and fit 16 bits.
 const SMALL: i16 = 21;
 
-// a - b in 16 bits: a pair less twice the centre, or a sample of luma less its centre.
+// a - b in 16 bits: a pair less twice the centre, or a sample of luma less its centre. Both fit, so they are narrowed by `as`: `try_from` would be a test that cannot fail.
 pub fn difference(a: u32, b: u32) -> i16
     requires { (a ≤ pair_limit) × (b ≤ pair_limit) }
     ensures { (result ≡ pos a -ℤ pos b) × (nat_abs result ≤ pair_limit) }
@@ -38,7 +38,7 @@ pub fn is_large(c: i16) -> bool
     c < -SMALL || SMALL < c
 }
 
-// Whether no number of a filter is. The test goes through all of them: so the compiler tests them side by side.
+// Whether no number of a filter is. `Small` is a fact that six functions ask: it is of filters of three types, and a type that knew it would have to be three. The test goes through all of them: so the compiler tests them side by side.
 fn is_small(filter: &[i8]) -> bool
     ensures { result ≡ true → Small (length filter.now) filter.now }
 {

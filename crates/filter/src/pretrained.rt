@@ -136,6 +136,7 @@ pub fn pc_eight_by(
         let last = [copy[12]; 8];
         return eight(|j| round_clip(set.sum::<16>(samples.around(j), last[j])));
     }
+    // `as` changes the sign of 255 alone.
     let set = Set {
         filter,
         base: LIMIT as u32,

@@ -40,7 +40,7 @@ pub trait Taps {
         ensures { result ≡ numbers self.now k };
 }
 
-// s + (p - b) c
+// s + (p - b) c; `as` changes the sign of what is at most 510.
 fn wide_tap(s: i32, p: u32, b: u32, c: i16) -> i32
     requires { (nat_abs s < 2 ^ 30) × (p ≤ pair_limit) × (b ≤ pair_limit) }
     ensures { (result ≡ s +ℤ (pos p -ℤ pos b) *ℤ c) × (nat_abs result ≤ nat_abs s + tap_limit) }

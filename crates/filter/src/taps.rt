@@ -9,7 +9,7 @@ ghost use Rattle.filter.specs.Windows.{own_inside};
 
 use definition::{INDEX_COUNT, ROW_BYTES, ROWS_SIZE, Refusal, SAMPLE_LIMIT};
 
-// The largest sample, in the width that sums are taken in.
+// The largest sample, 255, in the width that sums are taken in.
 pub const LIMIT: i32 = SAMPLE_LIMIT as i32;
 
 // v clipped to a sample, as an i32: so the compiler narrows with saturation.
@@ -19,7 +19,7 @@ fn clipped(v: i32) -> i32
     v.clamp(0, LIMIT)
 }
 
-// (s + 64) >> 7, clipped to a byte: the rounding of all three filters.
+// (s + 64) >> 7, clipped to a byte, which `as` narrows it to: the rounding of all three filters.
 pub fn round_clip(s: i32) -> u8
     requires { nat_abs s < 2 ^ 30 }
     ensures { result ≡ rounded limit8 s }

@@ -1,5 +1,5 @@
 // A luma row of a chroma unit: its columns are mixed of one or two rows of luma, and four more stand on both sides.
-ghost use Rattle.std.specs.Prelude.{◌≡◌, true, ℕ, cond, ◌+◌, ◌-◌, ◌%◌, ◌<◌, ◌≤◌, eqb, pos, length, get_or, IfOk, OnOk};
+ghost use Rattle.std.specs.Prelude.{◌≡◌, true, ℕ, cond, ◌+◌, ◌-◌, ◌%◌, ◌<◌, ◌≤◌, eqb, pos, length, get_or, take, drop, IfOk, OnOk};
 ghost use Rattle.std.proofs.lemmas.List.Edits.{sets};
 ghost use Rattle.definition.specs.Rows.{tab};
 ghost use Rattle.definition.specs.Answers.{status_from};
@@ -11,11 +11,24 @@ ghost use Rattle.definition.specs.Leaves.{luma_byte, luma_status, lower_at, sour
 use crate::beside::{Sides, copy_into};
 use definition::Refusal;
 
-// The slice that a luma row is a part of: the luma plane, or a saved border.
-pub fn source<'a>(plane: &'a [u8], saved: &'a [u8], from_saved: bool) -> &'a [u8]
-    ensures { result.now ≡ source from_saved plane.now saved.now }
+// The length of the slice that the row is a part of.
+pub fn source_len<'a>(plane: &'a [u8], saved: &'a [u8], from_saved: bool) -> usize
+    ensures { result ≡ length (source from_saved plane.now saved.now) }
 {
-    if from_saved { saved } else { plane }
+    if from_saved { saved.len() } else { plane.len() }
+}
+
+// The part of the luma plane, or of a saved border, that one luma row is padded from. It is cut where it is chosen: a slice that is chosen first, and cut by its user, was tried, and a row of
+// kind 0 took a third more.
+fn luma_row<'a>(plane: &'a [u8], saved: &'a [u8], from_saved: bool, at: usize, n: usize) -> &'a [u8]
+    requires { at + n ≤ length (source from_saved plane.now saved.now) }
+    ensures { result.now ≡ take n (drop at (source from_saved plane.now saved.now)) }
+{
+    if from_saved {
+        &saved[at..at + n]
+    } else {
+        &plane[at..at + n]
+    }
 }
 
 // How luma is taken for chroma: its subsampling, each 0 or 1, and the kind of mixing its rows, 0 to 2; numbers, as C hands them in: an enum would only name each once more.
@@ -178,9 +191,9 @@ impl LumaRow {
     }
 
     // The columns that are lent, and the borders that repeat beside them.
-    pub fn pad(self, dst: &mut [u8], src: &[u8])
-        requires { InsideLuma (length dst.old) self.o (length src.now) self.src_o self.src_stride self.w self.edges self.sampling.ss_hor self.sampling.ss_ver self.sampling.kind }
-        ensures { dst.new ≡ sets dst.old (self.o - 4) (tab (4 + self.w + 4) (luma_byte dst.old self.o src.now self.src_o self.src_stride self.w self.edges self.sampling.ss_hor self.sampling.ss_ver self.sampling.kind)) }
+    pub fn pad<'a>(self, dst: &mut [u8], plane: &'a [u8], saved: &'a [u8], from_saved: bool)
+        requires { InsideLuma (length dst.old) self.o (length (source from_saved plane.now saved.now)) self.src_o self.src_stride self.w self.edges self.sampling.ss_hor self.sampling.ss_ver self.sampling.kind }
+        ensures { dst.new ≡ sets dst.old (self.o - 4) (tab (4 + self.w + 4) (luma_byte dst.old self.o (source from_saved plane.now saved.now) self.src_o self.src_stride self.w self.edges self.sampling.ss_hor self.sampling.ss_ver self.sampling.kind)) }
     {
         let LumaRow {
             sampling,
@@ -195,8 +208,7 @@ impl LumaRow {
         let right = sides.behind(4);
         let n = left + w + right;
         let lower = sampling.lower_at(src_stride);
-        let at = src_o - left;
-        let row = &src[at..at + n + lower];
+        let row = luma_row(plane, saved, from_saved, src_o - left, n + lower);
         sampling.columns_into(dst, o - left, row, lower, n);
         sampling.border_into(dst, o - 4, o, left);
         sampling.border_into(dst, o + w, o + sampling.last_sampled(w), right);

@@ -1,4 +1,5 @@
-// What the paddings share: on which sides of a row samples are lent, and bytes that are put at a place.
+// What the paddings share: on which sides of a row samples are lent, and bytes that are put at a place. That they lie in the destination is asked by each function that puts some:
+// were it lent its part alone, each caller would cut that instead.
 ghost use Rattle.std.specs.Prelude.{◌≡◌, ◌+◌, ◌≤◌, length};
 ghost use Rattle.std.proofs.lemmas.List.Edits.{sets};
 ghost use Rattle.definition.specs.Rows.{tab};

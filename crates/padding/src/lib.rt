@@ -11,7 +11,7 @@ mod backup_row_luma;
 mod beside;
 
 use backup_row::Row;
-use backup_row_luma::{LumaRow, Sampling, source};
+use backup_row_luma::{LumaRow, Sampling, source_len};
 use definition::Refusal;
 
 // The parameters of these three are those of the C functions: the Rust's, but that a luma row's one source is either of two lists, as the scope asks.
@@ -88,8 +88,7 @@ pub fn backup_row_luma_8bpc<'a>(
         w,
         edges,
     };
-    let src = source(plane, saved, from_saved);
-    row.status(dst.len(), src.len())?;
-    row.pad(dst, src);
+    row.status(dst.len(), source_len(plane, saved, from_saved))?;
+    row.pad(dst, plane, saved, from_saved);
     Ok(())
 }

@@ -34,6 +34,7 @@ fn noskip_column(rt: &impl Print, w: usize, mask: u16, lent: &Lists<'_>) -> io::
 pub fn all(rt: &impl Print) -> io::Result<()> {
     let bottom: [u8; 4 * STRIDE] = samples_of(Samples::Bottom);
     let map: [u8; MAP_SIZE] = from_fn(lists::map_entry);
+    // Below 4: narrowed by `as`.
     let subclass: [u8; 64] = from_fn(|i| (i % 4) as u8);
     let filters: [i8; 72] = from_fn(lists::number);
     let wide: [i16; 52] = from_fn(|i| i16::from(lists::number(i)));

@@ -37,6 +37,7 @@ fn set_start(op: Operation, class: u8) -> usize
 
 impl State {
     // Samples x0 .. x1 - 1 of a row, of one class, by the operation, which is a value (docs/DECISIONS.md): one filter run into the part of the plane that they stand in. Pretrained sets are of 16 bits, all others of 8.
+    // A struct of its numbers would be made anew for each stretch, and hold nothing more.
     fn run(
         &self,
         op: Operation,
