@@ -34,8 +34,8 @@ unfolding uv_status
 uv_in dst rows indices col0 lcol0 step n a b i c d s e f =
     rw (le-leb n dst a, le-leb state_bytes rows b, indices_in 4 indices i, le-leb 2 col0 c, le-leb (col0 + n + 2) row_bytes d, le-leb step 2 s, le-leb 4 lcol0 e, le-leb (lcol0 + step * n + 4) luma_row_bytes f)
 
--- a run over the part from x0 to x1 of a plane q
-module _ (q rows indices : List ℕ) (at x0 x1 : ℕ) (l : x0 ≤ x1) (small : x1 ≤ width_limit) (room : at + x1 ≤ length q) (long : length rows ≡ state_bytes) where
+-- a run over the part from x0 to x1 of a plane q: `vs` is what it leaves of the part
+module _ (q vs rows indices : List ℕ) (at x0 x1 : ℕ) (l : x0 ≤ x1) (small : x1 ≤ width_limit) (room : at + x1 ≤ length q) (long : length rows ≡ state_bytes) where
   abbrev part : List ℕ
   part = mid_of (at + x0) (at + x1 - (at + x0)) q
 
@@ -45,9 +45,28 @@ module _ (q rows indices : List ℕ) (at x0 x1 : ℕ) (l : x0 ≤ x1) (small : x
   fits : length part ≡ count
   fits = mid_len (at + x0) (at + x1) q room
 
-  -- it is not refused
-  pub run_serves : ((j : ℕ) → j < index_count → get_or indices j 0 ≤ 9) → run_status (length part) (length rows) indices (row_origin + x0) count ≡ 0
-  run_serves i = run_in (length part) (length rows) indices (row_origin + x0) count (omega (arith, fits)) (omega arith) i (omega arith) (omega arith)
+  -- where it is not refused, the part is back, written
+  written : (status : ℕ) (f g : ℕ → ℕ) → status ≡ 0 → ((i : ℕ) → f i ≡ g i) →
+      vs ≡ unless_refused status part (sets part 0 (tab count f)) → put_mid (at + x0) count q vs ≡ sets q (at + x0) (tab (x1 - x0) g)
+  written status f g z same e = run-back q vs at x0 x1 f l room (rw z at e) ∙ rw (tab_cong (x1 - x0) f g (λ i h. same i))
+
+  -- luma and pretrained runs
+  own-written : (f g : ℕ → ℕ) → ((j : ℕ) → j < index_count → get_or indices j 0 ≤ 9) → ((i : ℕ) → f i ≡ g i) →
+      vs ≡ unless_refused (run_status (length part) (length rows) indices (row_origin + x0) count) part (sets part 0 (tab count f)) →
+      put_mid (at + x0) count q vs ≡ sets q (at + x0) (tab (x1 - x0) g)
+  own-written f g i =
+      written (run_status (length part) (length rows) indices (row_origin + x0) count) f g
+      (run_in (length part) (length rows) indices (row_origin + x0) count (omega (arith, fits)) (omega arith) i (omega arith) (omega arith))
+
+  pub luma-written : (filter : List ℤ) → ((j : ℕ) → j < index_count → get_or indices j 0 ≤ 9) → vs ≡ luma_run part rows indices (row_origin + x0) filter count →
+      put_mid (at + x0) count q vs ≡ sets q (at + x0) (tab (x1 - x0) (λ i. luma_unmasked limit8 rows indices (coefficients filter) (x0 + i)))
+  unfolding luma_unmasked
+  luma-written filter i = own-written _ (λ i. luma_unmasked limit8 rows indices (coefficients filter) (x0 + i)) i (λ i. rw (add_assoc row_origin x0 i))
+
+  pub pretrained_written : (filter : List ℤ) → ((j : ℕ) → j < index_count → get_or indices j 0 ≤ 9) → vs ≡ pretrained_run part rows indices (row_origin + x0) filter count →
+      put_mid (at + x0) count q vs ≡ sets q (at + x0) (tab (x1 - x0) (λ i. pretrained_unmasked limit8 rows indices (coefficients filter) (x0 + i)))
+  unfolding pretrained_unmasked
+  pretrained_written filter i = own-written _ (λ i. pretrained_unmasked limit8 rows indices (coefficients filter) (x0 + i)) i (λ i. rw (add_assoc row_origin x0 i))
 
   -- of the widest unit twice the columns fit a luma row
   luma-room : (step : ℕ) → step ≤ 2 → row_origin + x0 * step + step * count + 4 ≤ luma_row_bytes
@@ -56,39 +75,12 @@ module _ (q rows indices : List ℕ) (at x0 x1 : ℕ) (l : x0 ≤ x1) (small : x
       let e : x0 * step + (x1 - x0) * step ≡ x1 * step = sym (add-mul x0 (x1 - x0) step) ∙ ap (λ (x : ℕ). x * step) (omega arith) in
       rw d (omega (arith, e, mul_comm step (x1 - x0), mul-le-mul small s))
 
-  pub uv_serves : (step : ℕ) → step ≤ 2 → ((j : ℕ) → j < index_count → get_or indices j 0 ≤ 4) →
-      uv_status (length part) (length rows) indices (row_origin + x0) (row_origin + x0 * step) step count ≡ 0
-  uv_serves step s i =
-      uv_in (length part) (length rows) indices (row_origin + x0) (row_origin + x0 * step) step count
-      (omega (arith, fits)) (omega arith) i (omega arith) (omega arith) s (omega arith) (luma-room step s)
-
-  -- so the part is back, written: `vs` is what the run leaves of it
-  written : {vs : List ℕ} (status : ℕ) (f g : ℕ → ℕ) → status ≡ 0 → ((i : ℕ) → f i ≡ g i) →
-      vs ≡ unless_refused status part (sets part 0 (tab count f)) → put_mid (at + x0) count q vs ≡ sets q (at + x0) (tab (x1 - x0) g)
-  written {vs} status f g z same e = run-back q vs at x0 x1 f l room (rw z at e) ∙ rw (tab_cong (x1 - x0) f g (λ i h. same i))
-
-  -- luma and pretrained runs
-  own-written : {vs : List ℕ} (f g : ℕ → ℕ) → ((j : ℕ) → j < index_count → get_or indices j 0 ≤ 9) → ((i : ℕ) → f i ≡ g i) →
-      vs ≡ unless_refused (run_status (length part) (length rows) indices (row_origin + x0) count) part (sets part 0 (tab count f)) →
-      put_mid (at + x0) count q vs ≡ sets q (at + x0) (tab (x1 - x0) g)
-  own-written f g i =
-      written (run_status (length part) (length rows) indices (row_origin + x0) count) f g (run_serves i)
-
-  pub luma-written : {vs : List ℕ} (filter : List ℤ) → ((j : ℕ) → j < index_count → get_or indices j 0 ≤ 9) → vs ≡ luma_run part rows indices (row_origin + x0) filter count →
-      put_mid (at + x0) count q vs ≡ sets q (at + x0) (tab (x1 - x0) (λ i. luma_unmasked limit8 rows indices (coefficients filter) (x0 + i)))
-  unfolding luma_unmasked
-  luma-written filter i = own-written _ (λ i. luma_unmasked limit8 rows indices (coefficients filter) (x0 + i)) i (λ i. rw (add_assoc row_origin x0 i))
-
-  pub pretrained_written : {vs : List ℕ} (filter : List ℤ) → ((j : ℕ) → j < index_count → get_or indices j 0 ≤ 9) → vs ≡ pretrained_run part rows indices (row_origin + x0) filter count →
-      put_mid (at + x0) count q vs ≡ sets q (at + x0) (tab (x1 - x0) (λ i. pretrained_unmasked limit8 rows indices (coefficients filter) (x0 + i)))
-  unfolding pretrained_unmasked
-  pretrained_written filter i = own-written _ (λ i. pretrained_unmasked limit8 rows indices (coefficients filter) (x0 + i)) i (λ i. rw (add_assoc row_origin x0 i))
-
-  pub chroma_written : {vs : List ℕ} (step : ℕ) (filter : List ℤ) → step ≤ 2 → ((j : ℕ) → j < index_count → get_or indices j 0 ≤ 4) →
+  pub chroma_written : (step : ℕ) (filter : List ℤ) → step ≤ 2 → ((j : ℕ) → j < index_count → get_or indices j 0 ≤ 4) →
       vs ≡ chroma_run part rows indices (row_origin + x0) (row_origin + x0 * step) step filter count →
       put_mid (at + x0) count q vs ≡ sets q (at + x0) (tab (x1 - x0) (λ i. chroma_unmasked limit8 rows indices step (coefficients filter) (x0 + i)))
   unfolding chroma_unmasked
   chroma_written step filter s i =
       written (uv_status (length part) (length rows) indices (row_origin + x0) (row_origin + x0 * step) step count) _ (λ i. chroma_unmasked limit8 rows indices step (coefficients filter) (x0 + i))
-      (uv_serves step s i)
+      (uv_in (length part) (length rows) indices (row_origin + x0) (row_origin + x0 * step) step count
+      (omega (arith, fits)) (omega arith) i (omega arith) (omega arith) s (omega arith) (luma-room step s))
       (λ i. let m : row_origin + x0 * step + i * step ≡ row_origin + (x0 + i) * step = omega (arith, add-mul x0 i step) in rw (add_assoc row_origin x0 i, m))

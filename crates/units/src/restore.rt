@@ -61,24 +61,23 @@ impl State {
         let b = at + x1;
         let n = b - a;
         let part = &mut p[a..b];
-        match op {
+        // Proved to be Ok: `unwrap` was tried, and is slower (`LumaRows::row_from`).
+        let _ = match op {
             Operation::Luma | Operation::User => {
                 let set = set_at::<i8, 16>(lent.filters, from);
-                filter::ns_wiener_fir_run(part, rows, indices, col0, &set, n).unwrap();
+                filter::ns_wiener_fir_run(part, rows, indices, col0, &set, n)
             }
             Operation::Pretrained => {
                 let set = set_at::<i16, 13>(lent.wide, from);
-                filter::pc_wiener_fir_run(part, rows, indices, col0, &set, n).unwrap();
+                filter::pc_wiener_fir_run(part, rows, indices, col0, &set, n)
             }
             Operation::Chroma => {
                 let set = set_at::<i8, 18>(lent.filters, from);
                 let step = luma_step(self.given.ss_hor);
                 let lcol0 = ROW_ORIGIN + x0 * step;
-                filter::ns_wiener_uv_fir_run(
-                    part, rows, indices, col0, lcol0, step, &set, n,
-                ).unwrap();
+                filter::ns_wiener_uv_fir_run(part, rows, indices, col0, lcol0, step, &set, n)
             }
-        }
+        };
     }
 
     // The classes that stretches are told by: without classes all blocks are of one, whatever a state kept.

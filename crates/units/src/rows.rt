@@ -55,7 +55,8 @@ impl<'a> Unit<'a> {
         let e = border_of(self.op);
         let at = g.off + y * g.stride;
         let mut row = [0u8; ROW_BYTES];
-        padding::backup_row_8bpc(
+        // Proved to be Ok, and so below: `unwrap` was tried, and is slower (`LumaRows::row_from`).
+        let _ = padding::backup_row_8bpc(
             &mut row,
             ROW_ORIGIN,
             self.plane,
@@ -65,8 +66,7 @@ impl<'a> Unit<'a> {
             g.w,
             e,
             g.edges,
-        )
-        .unwrap();
+        );
         row
     }
 
@@ -78,7 +78,7 @@ impl<'a> Unit<'a> {
         let g = self.given;
         let e = border_of(self.op);
         let mut row = [0u8; ROW_BYTES];
-        padding::backup_row_lpf_8bpc(&mut row, ROW_ORIGIN, src, at, g.w, e, g.edges).unwrap();
+        let _ = padding::backup_row_lpf_8bpc(&mut row, ROW_ORIGIN, src, at, g.w, e, g.edges);
         row
     }
 

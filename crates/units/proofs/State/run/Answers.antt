@@ -1,46 +1,12 @@
 -- `State::run` meets its contract: the run that goes with the operation, under the class's set; it is not refused, and the part that it was lent comes back written.
-use Rattle.std.proofs.Common.{◌≡◌, ◌∙◌, ap, inl, inr, List, ℕ, ◌+◌, ◌≤◌, ◌<◌, rules}
+use Rattle.std.proofs.Common.{◌≡◌, ◌∙◌, ap, inl, inr, List, ◌+◌, rules}
 use Rattle.std.specs.Prelude.{ℤ, pos, length, get_or, slice_range}
 use Rattle.definition.specs.declared.Operation.TheVariants.{Luma, User, Pretrained, Chroma}
-use Rattle.definition.specs.Rows.{state_bytes, index_count}
-use Rattle.laws.proofs.Answers.{served}
+use Rattle.definition.specs.Rows.{state_bytes}
 use Rattle.units.specs.Restored.{columns_of}
-use Rattle.units.proofs.Runs.{run_serves, uv_serves, luma-written, pretrained_written, chroma_written}
+use Rattle.units.proofs.Runs.{luma-written, pretrained_written, chroma_written}
 use Rattle.units.proofs.Samples.{part-at, run_is}
 use Rattle.units.proofs.State.run.Goals as goal
-
-pub unwrap-requires : goal.unwrap-requires
-unwrap-requires c =
-    let a = c.args in
-    let s = a.self.now in
-    let x = c.requires.x0_le_x1 in
-    let long : length s.rows ≡ state_bytes = search rules in
-    let low : (j : ℕ) → j < index_count → get_or s.indices j 0 ≤ 9 =
-    elim c.in-Luma.is [
-      | inl e ↦ rw e at c.requires.by_index
-      | inr e ↦ rw e at c.requires.by_index
-    ] in
-    served c.ns_wiener_fir_run.result (c.ns_wiener_fir_run.ensures.value ∙ run_serves a.p.now s.rows s.indices a.at a.x0 a.x1 x.0 x.1 x.2 long low)
-
-pub unwrap-requires-in-Pretrained : goal.unwrap-requires-in-Pretrained
-unwrap-requires-in-Pretrained c =
-    let a = c.args in
-    let s = a.self.now in
-    let x = c.requires.x0_le_x1 in
-    let long : length s.rows ≡ state_bytes = search rules in
-    served c.pc_wiener_fir_run.result
-    (c.pc_wiener_fir_run.ensures.value ∙ run_serves a.p.now s.rows s.indices a.at a.x0 a.x1 x.0 x.1 x.2 long (rw c.in-Pretrained.is at c.requires.by_index))
-
-pub unwrap-requires-in-Chroma : goal.unwrap-requires-in-Chroma
-unwrap-requires-in-Chroma c =
-    let a = c.args in
-    let s = a.self.now in
-    let x = c.requires.x0_le_x1 in
-    let step = c.luma_step-step in
-    let long : length s.rows ≡ state_bytes = search rules in
-    served c.ns_wiener_uv_fir_run.result
-    (c.ns_wiener_uv_fir_run.ensures.value ∙
-    uv_serves a.p.now s.rows s.indices a.at a.x0 a.x1 x.0 x.1 x.2 long step.result step.ensures.2 (rw c.in-Chroma.is at c.requires.by_index))
 
 pub returns-in-Luma : goal.returns-in-Luma
 returns-in-Luma c =
@@ -53,11 +19,11 @@ returns-in-Luma c =
       | inl e ↦ rw e
           (run_is s.rows s.indices a.p.now a.lent.now.filters.now a.lent.now.wide.now c.set_at-set.result (columns_of s) a.at a.x0 a.x1 a.class from Luma
           (rw e at c.set_start-from.ensures) (λ k h. ap (λ (xs : List ℤ). get_or xs k (pos 0)) set-is ∙ part-at a.lent.now.filters.now from 16 k h)
-          (luma-written a.p.now s.rows s.indices a.at a.x0 a.x1 c.requires.x0_le_x1.0 c.requires.x0_le_x1.1 c.requires.x0_le_x1.2 long c.set_at-set.result (rw e at c.requires.by_index) c.ns_wiener_fir_run.ensures.dst_after))
+          (luma-written a.p.now c.ns_wiener_fir_run.new.dst s.rows s.indices a.at a.x0 a.x1 c.requires.x0_le_x1.0 c.requires.x0_le_x1.1 c.requires.x0_le_x1.2 long c.set_at-set.result (rw e at c.requires.by_index) c.ns_wiener_fir_run.ensures.dst_after))
       | inr e ↦ rw e
           (run_is s.rows s.indices a.p.now a.lent.now.filters.now a.lent.now.wide.now c.set_at-set.result (columns_of s) a.at a.x0 a.x1 a.class from User
           (rw e at c.set_start-from.ensures) (λ k h. ap (λ (xs : List ℤ). get_or xs k (pos 0)) set-is ∙ part-at a.lent.now.filters.now from 16 k h)
-          (luma-written a.p.now s.rows s.indices a.at a.x0 a.x1 c.requires.x0_le_x1.0 c.requires.x0_le_x1.1 c.requires.x0_le_x1.2 long c.set_at-set.result (rw e at c.requires.by_index) c.ns_wiener_fir_run.ensures.dst_after))
+          (luma-written a.p.now c.ns_wiener_fir_run.new.dst s.rows s.indices a.at a.x0 a.x1 c.requires.x0_le_x1.0 c.requires.x0_le_x1.1 c.requires.x0_le_x1.2 long c.set_at-set.result (rw e at c.requires.by_index) c.ns_wiener_fir_run.ensures.dst_after))
     ]
 
 pub returns-in-Pretrained : goal.returns-in-Pretrained
@@ -70,7 +36,7 @@ returns-in-Pretrained c =
     rw c.in-Pretrained.is
     (run_is s.rows s.indices a.p.now a.lent.now.filters.now a.lent.now.wide.now c.set_at-set-in-Pretrained.result (columns_of s) a.at a.x0 a.x1 a.class from Pretrained
     (rw c.in-Pretrained.is at c.set_start-from.ensures) (λ k h. ap (λ (xs : List ℤ). get_or xs k (pos 0)) set-is ∙ part-at a.lent.now.wide.now from 13 k h)
-    (pretrained_written a.p.now s.rows s.indices a.at a.x0 a.x1 c.requires.x0_le_x1.0 c.requires.x0_le_x1.1 c.requires.x0_le_x1.2 long c.set_at-set-in-Pretrained.result (rw c.in-Pretrained.is at c.requires.by_index) c.pc_wiener_fir_run.ensures.dst_after))
+    (pretrained_written a.p.now c.pc_wiener_fir_run.new.dst s.rows s.indices a.at a.x0 a.x1 c.requires.x0_le_x1.0 c.requires.x0_le_x1.1 c.requires.x0_le_x1.2 long c.set_at-set-in-Pretrained.result (rw c.in-Pretrained.is at c.requires.by_index) c.pc_wiener_fir_run.ensures.dst_after))
 
 pub returns-in-Chroma : goal.returns-in-Chroma
 returns-in-Chroma c =
@@ -84,5 +50,5 @@ returns-in-Chroma c =
     rw (e, ← c.luma_step-step.ensures.0)
     (run_is s.rows s.indices a.p.now a.lent.now.filters.now a.lent.now.wide.now c.set_at-set-in-Chroma.result step a.at a.x0 a.x1 a.class from Chroma
     (rw e at c.set_start-from.ensures) (λ k h. ap (λ (xs : List ℤ). get_or xs k (pos 0)) set-is ∙ part-at a.lent.now.filters.now from 18 k h)
-    (chroma_written a.p.now s.rows s.indices a.at a.x0 a.x1 c.requires.x0_le_x1.0 c.requires.x0_le_x1.1 c.requires.x0_le_x1.2 long step c.set_at-set-in-Chroma.result c.luma_step-step.ensures.2 (rw e at c.requires.by_index)
+    (chroma_written a.p.now c.ns_wiener_uv_fir_run.new.dst s.rows s.indices a.at a.x0 a.x1 c.requires.x0_le_x1.0 c.requires.x0_le_x1.1 c.requires.x0_le_x1.2 long step c.set_at-set-in-Chroma.result c.luma_step-step.ensures.2 (rw e at c.requires.by_index)
     c.ns_wiener_uv_fir_run.ensures.dst_after))

@@ -1,15 +1,8 @@
 -- `LumaRows::row_from` meets its contract: the padding is not refused.
 use Rattle.std.proofs.Common.{◌∙◌}
 use Rattle.operations.proofs.Borders.{steps_are}
-use Rattle.laws.proofs.Answers.{served}
 use Rattle.units.proofs.LumaSources.{from-served}
 use Rattle.units.proofs.unit.LumaRows.row_from.Goals as goal
-
-pub unwrap-requires : goal.unwrap-requires
-unwrap-requires c =
-    let g = c.args.self.now.given in
-    let w = steps_are g.w g.ss_hor c.args.self.now.inside.own.hor c.luma_step.ensures.0 in
-    served c.backup_row_luma_8bpc.result (rw w at c.backup_row_luma_8bpc.ensures.value ∙ c.requires)
 
 pub returns : goal.returns
 returns c =

@@ -2,13 +2,8 @@
 use Rattle.std.proofs.Common.{◌∙◌}
 use Rattle.definition.specs.Units.{own_row}
 use Rattle.units.specs.Padded.{lent_of, row_from}
-use Rattle.laws.proofs.Answers as answers
 use Rattle.units.proofs.Sources.{served, own_fits}
 use Rattle.units.proofs.unit.Unit.own_row.Goals as goal
-
-pub unwrap-requires : goal.unwrap-requires
-unwrap-requires c =
-    answers.served c.backup_row_8bpc.result (c.backup_row_8bpc.ensures.value ∙ own_fits c.args.self.now.inside.lie.own c.args.y c.border_of-e.ensures.0 c.requires)
 
 pub returns : goal.returns
 returns c =
