@@ -26,6 +26,9 @@ ROOT = os.path.dirname(HERE)
 SAVED_BELOW, PLANE_BELOW = 8, 32
 ROWS_ABOVE = 4
 
+# how long a copy may run: some minutes, one after the other
+STEPS, SECONDS = '1000000000', '900'
+
 # what `rt try` says of its runs, behind what the program prints
 SAYS = re.compile(r'(interpreter|checked|run)[:=]')
 
@@ -85,7 +88,7 @@ def write_crates(folder):
 def run(folder):
     """What the program in the copy prints."""
     program = os.path.join(folder, 'crates', 'row_four')
-    ran = subprocess.run(['rt', 'try'], cwd=program, stdout=subprocess.PIPE, stderr=subprocess.PIPE, text=True)
+    ran = subprocess.run(['rt', 'try', '--steps', STEPS, '--seconds', SECONDS], cwd=program, stdout=subprocess.PIPE, stderr=subprocess.PIPE, text=True)
     if ran.returncode != 0:
         stop('the copy did not run\n' + ran.stdout[-2000:] + ran.stderr[-2000:])
     return '\n'.join(line for line in ran.stdout.splitlines() if not SAYS.match(line))
