@@ -308,7 +308,7 @@ fn class_index() {
             3,
             16,
         );
-        answer.index + (u32::from(answer.status) << 16)
+        answer.class_index.index + (u32::from(answer.status) << 16)
     };
     line("get_class_lut_idx", 1, measure(&cases, 1, rust, port));
 }

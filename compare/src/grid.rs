@@ -3,6 +3,7 @@
 
 use gihvendu::get_class_lut_idx_8bpc;
 
+use crate::class_parts;
 use crate::exec_context::ExecContext;
 use crate::random::Random;
 use crate::runs::{self, ROWS};
@@ -88,7 +89,8 @@ fn units(exec: &ExecContext, r: &mut Random, op: Operation) -> (usize, usize) {
     (k, differ)
 }
 
-/// The class index of every block of units of every height, over flat, mixed and extreme samples.
+/// The class index of every block of units of every height, over flat, mixed and extreme samples: against the Rust, and with its
+/// parts against a second reading.
 fn class_indices(r: &mut Random) -> (usize, usize) {
     let (mut k, mut differ) = (0, 0);
     for bh in 1..=16 {
@@ -101,9 +103,10 @@ fn class_indices(r: &mut Random) -> (usize, usize) {
                     let rows = r.bytes(ROWS);
                     let first = r.below(10);
                     let indices = std::array::from_fn(|i| (first + i) % 10);
-                    let expected = runs::class_index(&rows, &indices, &noskip, q, bx, by, bh);
+                    let rust = runs::class_index(&rows, &indices, &noskip, q, bx, by, bh);
+                    let read = class_parts::class_index(&rows, &indices, &noskip, q, (bx, by, bh));
                     let got = get_class_lut_idx_8bpc(&rows, &indices, &noskip, q, bx, by, bh);
-                    differ += usize::from(got != Ok(expected));
+                    differ += usize::from(got != Ok(read) || read.index != rust);
                     k += 1;
                 }
             }

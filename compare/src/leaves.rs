@@ -2,8 +2,9 @@
 
 use std::panic::{AssertUnwindSafe, catch_unwind};
 
-use gihvendu::raw;
+use gihvendu::{ClassIndex, raw};
 
+use crate::class_parts;
 use crate::exec_context::ExecContext;
 use crate::looprestoration::{
     backup_row_8bpc, backup_row_lpf_8bpc, backup_row_luma_8bpc, get_qval_given_tskip,
@@ -353,7 +354,8 @@ fn luma_row(t: &mut Tally, r: &mut Random) {
     t.judge(status, expected, inside, &dst, lent == (plane, saved));
 }
 
-/// All statuses of the class index are in the table of refusals, so they are compared too.
+/// All statuses of the class index are in the table of refusals, so they are compared too; its parts against a second reading, and
+/// zeros where it is refused.
 fn class_index(t: &mut Tally, r: &mut Random) {
     let bh = 1 + r.below(16);
     let (bx, by) = (r.below(16), r.below(bh));
@@ -380,9 +382,14 @@ fn class_index(t: &mut Tally, r: &mut Random) {
     };
     let lent = (rows.clone(), indices, noskip.clone());
     let got = raw::gihvendu_get_class_lut_idx_8bpc(&rows, &indices, &noskip, q, bx, by, bh);
-    let good = got.status == status
+    let read = if status == DONE {
+        class_parts::class_index(&rows, &indices, &noskip, q, (bx, by, bh))
+    } else {
+        ClassIndex::default()
+    };
+    let good = (got.status, got.class_index) == (status, read)
         && (status != DONE
-            || got.index == runs::class_index(&rows, &indices, &noskip, q, bx, by, bh));
+            || read.index == runs::class_index(&rows, &indices, &noskip, q, bx, by, bh));
     if !good || lent != (rows, indices, noskip) {
         t.differ += 1;
     } else if status == DONE {

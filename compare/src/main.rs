@@ -22,9 +22,9 @@
 //!     compare cards SEED FOLDER     writes a corpus of cards, their lengths and the answers expected (cards, lengths, stdout)
 //!     compare replay                prints what the Rust makes of the units of the Rattle program replay
 //!     compare traps                 prints what the Rust makes of the units of the Rattle program traps
-//!     compare leaves SEED COUNT     COUNT random runs of each leaf
+//!     compare leaves SEED COUNT     COUNT random runs of each leaf, the class index also against a second reading of its parts
 //!     compare grid SEED             every width, height, set of edge bits, pair, kind and shape of masks as whole units, and
-//!                                   the class index of every block
+//!                                   the class index of every block, with its parts
 //!     compare units SEED COUNT      COUNT random whole units of each operation, every byte of the plane
 //!     compare advances SEED COUNT   COUNT random units of each operation in random lists of advances, refused calls and
 //!                                   overwritten rows, against the Rust's one call
@@ -48,6 +48,8 @@ mod bench_units;
 #[cfg(feature = "linked")]
 mod calls;
 mod cards;
+#[cfg(feature = "linked")]
+mod class_parts;
 mod cuts;
 #[cfg(feature = "linked")]
 mod differences;

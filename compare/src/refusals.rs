@@ -121,7 +121,8 @@ impl Run {
         let (bx, by, bh) = block;
         let got = get_class_lut_idx_8bpc(&rows, &indices, &noskip, q, bx, by, bh);
         let good = if status == 0 {
-            got == Ok(runs::class_index(&rows, &indices, &noskip, q, bx, by, bh))
+            let rust = runs::class_index(&rows, &indices, &noskip, q, bx, by, bh);
+            got.is_ok_and(|class| class.index == rust)
         } else {
             got.is_err_and(|refusal| refusal.number() == status)
         };

@@ -15,7 +15,7 @@ use Rattle.definition.specs.declared.Given.{Given}
 use Rattle.definition.specs.Numbers.{sum_z, sum_n}
 use Rattle.definition.specs.Rows.{tab}
 use Rattle.definition.specs.Sample.{rounded}
-use Rattle.definition.specs.ClassIndex.{term, bin, feature, skip_sum, index_of}
+use Rattle.definition.specs.ClassIndex.{term, bin, feature, skip_sum, bins_of, index_of}
 use Rattle.definition.specs.Units.{Lent, sample_at, luma_at, class_of, final_sample}
 use Rattle.definition.specs.Planes.{padded_in, skip_bit, final_in, across, unit_number, plane_after, piece_at, plane_pieces}
 
@@ -50,7 +50,7 @@ holds v = same (final v.op v.given v.lent v.plane) v.expected
 
 /// The definition's own names that the computation goes through.
 const UNFOLDED: &str =
-    "sum_z sum_n rounded term bin feature skip_sum index_of sample_at luma_at class_of final_sample";
+    "sum_z sum_n rounded term bin feature skip_sum bins_of index_of sample_at luma_at class_of final_sample";
 
 /// A line `name = items;` of a record, broken into further lines where it is long.
 pub(crate) fn field<T>(

@@ -9,7 +9,7 @@
 //! | `ns_wiener_multi_8bpc` | [`ns_wiener_multi_8bpc`], or [`State::open_n`] and [`State::advance_n`] |
 //! | `pc_wiener_8bpc` | [`pc_wiener_8bpc`], or [`State::open_p`] and [`State::advance_p`] |
 //! | `ns_wiener_single_uv_8bpc` | [`ns_wiener_single_uv_8bpc`], or [`State::open_c`] and [`State::advance_c`] |
-//! | `get_class_lut_idx_8bpc` | [`get_class_lut_idx_8bpc`] |
+//! | `get_class_lut_idx_8bpc` | [`get_class_lut_idx_8bpc`], with the parts of the index in [`ClassIndex`] |
 //!
 //! What is written over all four takes a [`Lent`], which says the [`Operation`] and holds what it alone is lent: [`restore`],
 //! or [`State::open`] and [`State::advance`].
@@ -37,6 +37,7 @@
 #![deny(missing_docs)]
 
 mod call;
+mod class_index;
 mod lent;
 mod operation;
 mod plane;
@@ -45,14 +46,14 @@ mod refusal;
 mod state;
 mod whole;
 
+pub use class_index::{ClassIndex, get_class_lut_idx_8bpc};
 pub use lent::{Borders, Classes, Luma, LumaUnit, Unit, edges};
 pub use operation::{Lent, Operation, restore};
 pub use plane::{PlaneUnits, restore_plane};
 pub use refusal::Refusal;
 pub use state::State;
 pub use whole::{
-    get_class_lut_idx_8bpc, ns_wiener_multi_8bpc, ns_wiener_single_uv_8bpc,
-    ns_wiener_single_y_8bpc, pc_wiener_8bpc,
+    ns_wiener_multi_8bpc, ns_wiener_single_uv_8bpc, ns_wiener_single_y_8bpc, pc_wiener_8bpc,
 };
 
 /// How much a call restored, in pieces: four neighbouring samples of one row in one unmasked block.

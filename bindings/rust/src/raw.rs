@@ -20,6 +20,8 @@
 
 use std::convert::identity;
 
+use crate::ClassIndex;
+
 /// Declares functions of the library, each with a safe function of the same name. A slice goes over as its pointer and its
 /// length, a reference to an array as a pointer, a struct as C passes it.
 macro_rules! functions {
@@ -157,11 +159,11 @@ pub struct Restored {
 /// What the class index answers.
 #[repr(C)]
 #[derive(Clone, Copy, Debug, PartialEq, Eq)]
-pub struct ClassIndex {
+pub struct Indexed {
     /// see [`Refusal::from_status`](crate::Refusal::from_status)
     pub status: u8,
-    /// the class index; 0 where refused
-    pub index: u32,
+    /// the class index with its parts; zeros where refused
+    pub class_index: ClassIndex,
 }
 
 /// What a quantizer term answers.
@@ -205,10 +207,10 @@ functions! {
     /// The quantizer term `i`.
     fn gihvendu_get_qval_given_tskip(qstep: i32, tskip: u8, i: usize) -> Qval;
 
-    /// The class index of a block.
+    /// The class index of a block, with its parts.
     fn gihvendu_get_class_lut_idx_8bpc(
         rows: &[u8], indices: Indices, noskip: &[u16], base_q: i32, bx: usize, by: usize, bh: usize,
-    ) -> ClassIndex;
+    ) -> Indexed;
 
     /// A whole luma unit.
     fn gihvendu_ns_wiener_single_y_8bpc(

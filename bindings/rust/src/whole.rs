@@ -1,5 +1,5 @@
 use crate::call::call;
-use crate::raw::{self, Restored};
+use crate::raw::Restored;
 use crate::{Borders, Classes, Luma, LumaUnit, Pieces, Refusal, Unit};
 
 fn pieces(answer: Restored) -> Result<Pieces, Refusal> {
@@ -111,29 +111,4 @@ pub fn ns_wiener_single_uv_8bpc(
     pieces(
         call!(gihvendu_ns_wiener_single_uv_8bpc, plane, unit, borders, skip, filter filter, luma luma_unit, luma),
     )
-}
-
-/// The class index of block (`bx`, `by`) of a unit with `bh` block rows. `rows` are ten of 76 bytes, the unit's first
-/// sample at byte 6; the fifth of `indices` names the block's first row.
-///
-/// ```
-/// use gihvendu::{Refusal, get_class_lut_idx_8bpc};
-///
-/// let (rows, indices) = ([50; 760], [0, 1, 2, 3, 4, 5, 6, 7, 8, 9]);
-/// assert_eq!(get_class_lut_idx_8bpc(&rows, &indices, &[0xffff], 0, 0, 0, 1), Ok(0));
-/// assert_eq!(get_class_lut_idx_8bpc(&rows, &indices, &[0], 0, 0, 0, 1), Ok(128));
-/// assert_eq!(get_class_lut_idx_8bpc(&rows, &indices, &[0xffff], 4000, 0, 0, 1), Ok(1536));
-/// assert_eq!(get_class_lut_idx_8bpc(&rows, &indices, &[0], 0, 0, 1, 1), Err(Refusal::Block));
-/// ```
-pub fn get_class_lut_idx_8bpc(
-    rows: &[u8],
-    indices: &[usize; 10],
-    noskip: &[u16],
-    base_q: i32,
-    bx: usize,
-    by: usize,
-    bh: usize,
-) -> Result<u32, Refusal> {
-    let answer = raw::gihvendu_get_class_lut_idx_8bpc(rows, indices, noskip, base_q, bx, by, bh);
-    Refusal::check(answer.status).map(|()| answer.index)
 }

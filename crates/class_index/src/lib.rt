@@ -1,14 +1,14 @@
-// looprestoration.rs: the class index of a block, at depth 8. Nothing is written.
+// looprestoration.rs: the class index of a block with its parts, at depth 8. Nothing is written.
 #![tactic(auto)]
 
 ghost use Rattle.std.specs.Prelude.{◌≡◌, ℕ, cond, ◌+◌, ◌-◌, ◌*◌, ◌^◌, ◌<◌, ◌≤◌, min, pos, ◌+ℤ◌, length, get_or, IfOk};
 ghost use Rattle.definition.specs.Answers.{status_from};
 ghost use Rattle.definition.specs.Numbers.{bit_set, to_i32};
 ghost use Rattle.definition.specs.Limits.{block_row_limit};
-ghost use Rattle.definition.specs.ClassIndex.{last_column, term, bin, skip_sum, factors, skip_factor, index_of, class_index};
+ghost use Rattle.definition.specs.ClassIndex.{last_column, features_of, term, bin, skip_sum, factors, bins_of, index_of};
 ghost use Rattle.definition.specs.Refusals.{class_status};
 ghost use Rattle.definition.specs.Leaves.{block_flat, bad_place, place_status};
-ghost use Rattle.class_index.specs.Answers.{class_index_of};
+ghost use Rattle.class_index.specs.Answers.{class_index_by, indexed_of};
 
 use definition::{BLOCK_ROW_LIMIT, INDEX_COUNT, LAST_COLUMN, Refusal};
 use features::pcw_features;
@@ -33,23 +33,39 @@ impl Place {
     }
 }
 
-// What a program in C is answered: the status, and the index or 0.
+// A class index, 0 to 4095, and what it is made of: the skip sum before the factor 7, 0 to 36, and the four bins, 0 to 7, that of the first term first.
 #[repr(C)]
 #[derive(Clone, Copy)]
 pub struct ClassIndex {
-    pub status: u8,
     pub index: u32,
+    pub skip_sum: u32,
+    pub bins: [u32; 4],
 }
 
-impl From<Result<u32, Refusal>> for ClassIndex {
-    ghost from_gives = { λ r x. x ≡ class_index_of r };
+// What a program in C is answered: the status, and the class index or zeros.
+#[repr(C)]
+#[derive(Clone, Copy)]
+pub struct Indexed {
+    pub status: u8,
+    pub class_index: ClassIndex,
+}
 
-    fn from(answer: Result<u32, Refusal>) -> ClassIndex {
+impl From<Result<ClassIndex, Refusal>> for Indexed {
+    ghost from_gives = { λ r x. x ≡ indexed_of r };
+
+    fn from(answer: Result<ClassIndex, Refusal>) -> Indexed {
         match answer {
-            Ok(index) => ClassIndex { status: 0, index },
-            Err(refusal) => ClassIndex {
+            Ok(class_index) => Indexed {
+                status: 0,
+                class_index,
+            },
+            Err(refusal) => Indexed {
                 status: u8::from(refusal),
-                index: 0,
+                class_index: ClassIndex {
+                    index: 0,
+                    skip_sum: 0,
+                    bins: [0; 4],
+                },
             },
         }
     }
@@ -131,29 +147,47 @@ fn feature_bin(f: i32, qstep: i32, tskip: u8, i: usize) -> u32
     get_qval_lut_bin(saturating_add(f, term(qstep, tskip, i)))
 }
 
-// The index, from the scaled features.
-fn lut_index(f: [i32; 3], qstep: i32, tskip: u8) -> u32
-    ensures { result ≡ 512 * bin (term qstep tskip 0) + 64 * bin (to_i32 (get_or f 0 (pos 0) +ℤ term qstep tskip 1)) + 8 * bin (to_i32 (get_or f 1 (pos 0) +ℤ term qstep tskip 2)) + bin (to_i32 (get_or f 2 (pos 0) +ℤ term qstep tskip 3)) }
+// The four bins. The skip sum times 7 is at most 252 and narrowed by `as`.
+#[tactic(auto, unfolding(definition::specs::ClassIndex::bins_of))]
+fn bins(sums: [u16; 3], qstep: i32, skip_sum: u32) -> [u32; 4]
+    requires { skip_sum ≤ 36 }
+    ensures { (result ≡ bins_of sums qstep skip_sum) × ((k : ℕ) → k < 4 → get_or result k 0 ≤ 7) }
 {
-    let first = term_bin(qstep, tskip);
-    let a = feature_bin(f[0], qstep, tskip, 1);
-    let b = feature_bin(f[1], qstep, tskip, 2);
-    let c = feature_bin(f[2], qstep, tskip, 3);
-    512 * first + 64 * a + 8 * b + c
+    let f = scaled(sums);
+    let tskip = (7 * skip_sum) as u8;
+    [
+        term_bin(qstep, tskip),
+        feature_bin(f[0], qstep, tskip, 1),
+        feature_bin(f[1], qstep, tskip, 2),
+        feature_bin(f[2], qstep, tskip, 3),
+    ]
 }
 
-// The index, from the features. The skip sum times 7 is at most 252 and narrowed by `as`. Inlined, the tests of the noskip bits become shifts, which take longer.
-#[inline(never)]
+// The index, from the bins.
 #[tactic(auto, unfolding(definition::specs::ClassIndex::index_of))]
-fn index_of(sums: [u16; 3], noskip: &[u16], base_q: i32, place: Place) -> u32
-    requires { (place.bx ≤ last_column) × (place.by < place.bh) × (place.bh ≤ block_row_limit) × (place.bh ≤ length noskip.now) }
-    ensures { result ≡ index_of (get_or sums 0 0) (get_or sums 1 0) (get_or sums 2 0) base_q (skip_factor * skip_sum noskip.now place.bh place.bx place.by) }
+fn lut_index(bins: [u32; 4]) -> u32
+    requires { (k : ℕ) → k < 4 → get_or bins k 0 ≤ 7 }
+    ensures { result ≡ index_of bins }
 {
-    let tskip = 7 * skip_sum(noskip, place);
-    lut_index(scaled(sums), base_q, tskip as u8)
+    512 * bins[0] + 64 * bins[1] + 8 * bins[2] + bins[3]
 }
 
-// The class index of a block, 0 to 4095.
+// The class index, from the features. Inlined, the tests of the noskip bits become shifts, which take longer.
+#[inline(never)]
+fn class_index(sums: [u16; 3], noskip: &[u16], base_q: i32, place: Place) -> ClassIndex
+    requires { (place.bx ≤ last_column) × (place.by < place.bh) × (place.bh ≤ block_row_limit) × (place.bh ≤ length noskip.now) }
+    ensures { result ≡ class_index_by sums noskip.now base_q place.bx place.by place.bh }
+{
+    let skip_sum = skip_sum(noskip, place);
+    let bins = bins(sums, base_q, skip_sum);
+    ClassIndex {
+        index: lut_index(bins),
+        skip_sum,
+        bins,
+    }
+}
+
+// The class index of a block, by its rows.
 #[tactic(auto, unfolding(definition::specs::Refusals::class_status, definition::specs::Leaves::rows_status, definition::specs::Leaves::place_status))]
 pub fn get_class_lut_idx_8bpc(
     rows: &[u8],
@@ -161,9 +195,9 @@ pub fn get_class_lut_idx_8bpc(
     noskip: &[u16],
     base_q: i32,
     place: Place,
-) -> Result<u32, Refusal>
+) -> Result<ClassIndex, Refusal>
     ensures status_value { status_from result ≡ class_status (length rows.now) indices.now (length noskip.now) place.bx place.by place.bh }
-    ensures index_value { IfOk result (λ n. n ≡ class_index (block_flat rows.now indices.now place.bx) noskip.now base_q place.bx place.by place.bh) }
+    ensures index_value { IfOk result (λ c. c ≡ class_index_by (features_of (block_flat rows.now indices.now place.bx)) noskip.now base_q place.bx place.by place.bh) }
 {
     if place.is_bad() {
         return Err(Refusal::Block);
@@ -179,9 +213,9 @@ pub fn class_of_features(
     noskip: &[u16],
     base_q: i32,
     place: Place,
-) -> Result<u32, Refusal>
+) -> Result<ClassIndex, Refusal>
     ensures status_value { status_from result ≡ place_status (length noskip.now) place.bx place.by place.bh }
-    ensures index_value { IfOk result (λ n. n ≡ index_of (get_or sums 0 0) (get_or sums 1 0) (get_or sums 2 0) base_q (skip_factor * skip_sum noskip.now place.bh place.bx place.by)) }
+    ensures index_value { IfOk result (λ c. c ≡ class_index_by sums noskip.now base_q place.bx place.by place.bh) }
 {
     if place.is_bad() {
         return Err(Refusal::Block);
@@ -189,5 +223,5 @@ pub fn class_of_features(
     if noskip.len() < place.bh {
         return Err(Refusal::Masks);
     }
-    Ok(index_of(sums, noskip, base_q, place))
+    Ok(class_index(sums, noskip, base_q, place))
 }

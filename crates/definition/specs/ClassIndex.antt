@@ -49,6 +49,10 @@ module _ (s : ℤ → ℤ → ℕ) where
   unfoldable pub feature : ℤ → ℕ
   feature d = sum_n 6 (λ i. sum_n 6 (λ j. bend d (pos i -ℤ pos 1) (pos j -ℤ pos 1)))
 
+  -- a block's three: vertical, falling, rising
+  abbrev pub features_of : List ℕ
+  features_of = feature (pos 0) ∷ feature (pos 1) ∷ feature (negsuc 0) ∷ []
+
 -- the last column of the noskip bits, to which a column is clipped also in a narrow unit
 abbrev pub last_column : ℕ
 last_column = 15
@@ -81,16 +85,26 @@ factors = 3739 ∷ 3273 ∷ 3074 ∷ []
 abbrev pub skip_factor : ℕ
 skip_factor = 7
 
--- the bin of feature k plus term k + 1, the sum saturating
-abbrev pub feature_bin : ℕ → ℤ → ℕ → ℕ → ℕ
-feature_bin f q t k = bin (to_i32 (pos (f * get_or factors k 0) +ℤ term q t (k + 1)))
+-- THE FOUR BINS, from the three features f, the quantizer q and the skip sum s; the skip t is 7 times s
+-- that of term 0
+abbrev pub first_bin : ℤ → ℕ → ℕ
+first_bin q s = bin (term q (skip_factor * s) 0)
 
--- from the three features and t
-unfoldable pub index_of : ℕ → ℕ → ℕ → ℤ → ℕ → ℕ
-index_of f₀ f₁ f₂ q t =
-    512 * bin (term q t 0) + 64 * feature_bin f₀ q t 0 + 8 * feature_bin f₁ q t 1 + feature_bin f₂ q t 2
+-- that of feature k plus term k + 1, the sum saturating
+abbrev pub feature_bin : List ℕ → ℤ → ℕ → ℕ → ℕ
+feature_bin f q s k = bin (to_i32 (pos (get_or f k 0 * get_or factors k 0) +ℤ term q (skip_factor * s) (k + 1)))
 
--- the class index of block (bx, by)
-abbrev pub class_index : (ℤ → ℤ → ℕ) → List ℕ → ℤ → ℕ → ℕ → ℕ → ℕ
-class_index s noskip q bx by bh =
-    index_of (feature s (pos 0)) (feature s (pos 1)) (feature s (negsuc 0)) q (skip_factor * skip_sum noskip bh bx by)
+unfoldable pub bins_of : List ℕ → ℤ → ℕ → List ℕ
+bins_of f q s = first_bin q s ∷ feature_bin f q s 0 ∷ feature_bin f q s 1 ∷ feature_bin f q s 2 ∷ []
+
+-- the index, from its bins
+unfoldable pub index_of : List ℕ → ℕ
+index_of bins = 512 * get_or bins 0 0 + 64 * get_or bins 1 0 + 8 * get_or bins 2 0 + get_or bins 3 0
+
+-- of block (bx, by), from the padded samples s
+module _ (s : ℤ → ℤ → ℕ) (noskip : List ℕ) (q : ℤ) (bx by bh : ℕ) where
+  abbrev pub class_bins : List ℕ
+  class_bins = bins_of (features_of s) q (skip_sum noskip bh bx by)
+
+  abbrev pub class_index : ℕ
+  class_index = index_of class_bins

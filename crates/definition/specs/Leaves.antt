@@ -1,5 +1,5 @@
 -- docs/SCOPE.md, 'Leaves': when one is refused, and what it answers or leaves. 5 where a byte or a place lies outside; what is refused answers zeros and writes nothing.
-use Rattle.std.specs.Prelude.{Bool, cond, not, ◌&&◌, ◌||◌, List, [], ◌∷◌, ℕ, zero, suc, ◌+◌, ◌-◌, ◌*◌, ◌%◌, ltb, leb, eqb, ℤ, pos, negsuc, ◌-ℤ◌, length, get_or, replicate}
+use Rattle.std.specs.Prelude.{Bool, cond, not, ◌&&◌, ◌||◌, List, ℕ, zero, suc, ◌+◌, ◌-◌, ◌*◌, ◌%◌, ltb, leb, eqb, ℤ, pos, ◌-ℤ◌, length, get_or, replicate}
 use Rattle.std.proofs.lemmas.List.Edits.{sets}
 use Rattle.definition.specs.Rows.{tab, outside_unless, unless_refused, row_bytes, row_origin, luma_row_bytes, luma_flat, chroma_flat, chroma_luma_flat, state_bytes}
 use Rattle.definition.specs.ClassIndex.{last_column, feature}
@@ -35,18 +35,9 @@ block_flat rows indices bx = luma_flat rows indices (row_origin + side * bx)
 abbrev pub feature_at : List ℕ → List ℕ → ℤ → ℕ → ℕ
 feature_at rows indices d bx = feature (block_flat rows indices bx) d
 
--- a block's three
-abbrev pub feature_sums : ℕ → (ℤ → ℕ) → List ℕ
-feature_sums zero f = f (pos 0) ∷ f (pos 1) ∷ f (negsuc 0) ∷ []
-feature_sums (suc status) f = 0 ∷ 0 ∷ 0 ∷ []
-
--- those of n blocks, and zeros behind them; none where the call is refused
+-- those of n blocks, and zeros behind them
 abbrev pub feature_row : ℕ → (ℕ → ℕ) → List ℕ
 feature_row n f = sets (replicate block_column_limit 0) 0 (tab n f)
-
-abbrev pub served : ℕ → ℕ → ℕ
-served zero n = n
-served (suc status) n = 0
 
 -- THE CLASS INDEX of a block whose features are given: as `class_status` has it of rows that lie inside. A place that is no block's of a unit gives 12.
 abbrev pub bad_place : ℕ → ℕ → ℕ → Bool

@@ -7,8 +7,8 @@ ghost use Rattle.definition.specs.Answers.{status_from};
 ghost use Rattle.definition.specs.Numbers.{sum_n};
 ghost use Rattle.definition.specs.Limits.{block_column_limit};
 ghost use Rattle.definition.specs.Rows.{row_bytes, index_count};
-ghost use Rattle.definition.specs.ClassIndex.{last_column};
-ghost use Rattle.definition.specs.Leaves.{rows_status, row_features_status, block_features_status, feature_row, feature_at, feature_sums};
+ghost use Rattle.definition.specs.ClassIndex.{last_column, features_of};
+ghost use Rattle.definition.specs.Leaves.{block_flat, rows_status, row_features_status, block_features_status, feature_row, feature_at};
 ghost use Rattle.features.specs.Columns.{column_bend, column_sum, bend_limit, column_limit, column_count, TenRows};
 
 use definition::{
@@ -171,7 +171,7 @@ pub fn pcw_features(
     bx: usize,
 ) -> Result<[u16; 3], Refusal>
     ensures status_value { status_from result ≡ block_features_status (length rows.now) indices.now bx }
-    ensures sums_value { IfOk result (λ sums. sums ≡ feature_sums 0 (λ d. feature_at rows.now indices.now d bx)) }
+    ensures sums_value { IfOk result (λ sums. sums ≡ features_of (block_flat rows.now indices.now bx)) }
 {
     let rows = Rows::lent(rows, indices, bx <= LAST_COLUMN)?;
     let vertical = rows.feature(Direction::vertical(), bx);

@@ -6,13 +6,13 @@
 
 ghost use Rattle.std.specs.Prelude.{◌≡◌, length};
 ghost use Rattle.definition.specs.Answers.{status_from};
-ghost use Rattle.definition.specs.ClassIndex.{term, class_index};
+ghost use Rattle.definition.specs.ClassIndex.{term, features_of};
 ghost use Rattle.definition.specs.Refusals.{class_status};
 ghost use Rattle.definition.specs.Leaves.{block_flat, term_status, or_zero_z, backup_status, backup_row, lpf_status, lpf_row, luma_status, backup_luma_row, source, run_status, uv_status, luma_run, pretrained_run, chroma_run};
-ghost use Rattle.definition.specs.Rows.{or_zero};
+ghost use Rattle.class_index.specs.Answers.{class_index_by, class_index_unless};
 ghost use Rattle.units.specs.Advances.{is_finished};
 
-use class_index::{ClassIndex, Place};
+use class_index::{Indexed, Place};
 use definition::{INDEX_COUNT, Refusal};
 use qval::Qval;
 use units::State;
@@ -161,12 +161,12 @@ pub extern "C" fn gihvendu_get_class_lut_idx_8bpc(
     bx: usize,
     by: usize,
     bh: usize,
-) -> ClassIndex
+) -> Indexed
     ensures status_value { result.status ≡ class_status (length rows.now) indices.now (length noskip.now) bx by bh }
-    ensures index_value { result.index ≡ or_zero (class_status (length rows.now) indices.now (length noskip.now) bx by bh) (class_index (block_flat rows.now indices.now bx) noskip.now base_q bx by bh) }
+    ensures index_value { result.class_index ≡ class_index_unless (class_status (length rows.now) indices.now (length noskip.now) bx by bh) (class_index_by (features_of (block_flat rows.now indices.now bx)) noskip.now base_q bx by bh) }
 {
     let place = Place { bx, by, bh };
-    ClassIndex::from(class_index::get_class_lut_idx_8bpc(rows, indices, noskip, base_q, place))
+    Indexed::from(class_index::get_class_lut_idx_8bpc(rows, indices, noskip, base_q, place))
 }
 
 // Whether all rows of a unit are done.

@@ -1,10 +1,10 @@
 -- Class indices that agree: the features look at eight rows and columns, from two before the block's first sample on.
 use mathlib.Core.Path.{◌≡◌, sym, ◌∙◌}
-use mathlib.Core.List.{List}
+use mathlib.Core.List.{List, [], ◌∷◌}
 use Prim.Native.Nat.{ℕ, zero, suc, ◌+◌, ◌*◌, ◌<◌}
 use native.Mathlib.Omega.{arith}
 use lib.IntN.{ℤ, pos, negsuc, nat_abs, ◌+ℤ◌, ◌-ℤ◌, +ℤ_assoc}
-use Rattle.definition.specs.ClassIndex.{bend, feature, index_of, skip_factor, skip_sum, class_index}
+use Rattle.definition.specs.ClassIndex.{bend, feature, skip_sum, bins_of, index_of, class_index}
 use Rattle.laws.proofs.Sums.{sum_n_cong}
 
 -- windows that agree on the eight rows and columns from -2 on
@@ -68,4 +68,4 @@ module _ (s t : ℤ → ℤ → ℕ) (e : Eight s t) where
 
   pub class_same : (noskip : List ℕ) (q : ℤ) (bx by bh : ℕ) → class_index s noskip q bx by bh ≡ class_index t noskip q bx by bh
   class_same noskip q bx by bh =
-      λ k. index_of (feature-same (pos 0) straight k) (feature-same (pos 1) right k) (feature-same (negsuc 0) left k) q (skip_factor * skip_sum noskip bh bx by)
+      λ k. index_of (bins_of (feature-same (pos 0) straight k ∷ feature-same (pos 1) right k ∷ feature-same (negsuc 0) left k ∷ []) q (skip_sum noskip bh bx by))

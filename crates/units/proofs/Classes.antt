@@ -14,7 +14,7 @@ use borrow.Author.Tests.{ltb-true, le-ltb, le-leb, lt-leb}
 use Rattle.definition.specs.Limits.{block_column_limit, block_row_limit, map_size}
 use Rattle.definition.specs.declared.Given.{Given}
 use Rattle.definition.specs.Rows.{tab}
-use Rattle.definition.specs.ClassIndex.{bin, term, feature_bin, index_of, last_column}
+use Rattle.definition.specs.ClassIndex.{bin, first_bin, feature_bin, bins_of, index_of, last_column}
 use Rattle.definition.specs.Refusals.{every, rows_size}
 use Rattle.definition.specs.Units.{Lent}
 use Rattle.definition.specs.Leaves.{rows_status, row_features_status, feature_row, place_status}
@@ -29,13 +29,13 @@ unfolding bin
 bin-low v = omega arith
 
 -- an index is below the size of a map
-pub index-low : (f₀ f₁ f₂ : ℕ) (q : ℤ) (t : ℕ) → index_of f₀ f₁ f₂ q t < map_size
-unfolding index_of
-index-low f₀ f₁ f₂ q t =
-    let a = bin-low (term q t 0) in
-    let b : feature_bin f₀ q t 0 ≤ 7 = bin-low _ in
-    let c : feature_bin f₁ q t 1 ≤ 7 = bin-low _ in
-    let d : feature_bin f₂ q t 2 ≤ 7 = bin-low _ in
+pub index-low : (f : List ℕ) (q : ℤ) (s : ℕ) → index_of (bins_of f q s) < map_size
+unfolding index_of bins_of
+index-low f q s =
+    let a : first_bin q s ≤ 7 = bin-low _ in
+    let b : feature_bin f q s 0 ≤ 7 = bin-low _ in
+    let c : feature_bin f q s 1 ≤ 7 = bin-low _ in
+    let d : feature_bin f q s 2 ≤ 7 = bin-low _ in
     omega (arith, a, b, c, d)
 
 -- the call for the features is not refused, and answers each block's
@@ -64,7 +64,7 @@ pub class_low : (g : Given) (l : Lent) (r : Ring) (y bx n : ℕ) → length l.ma
     every (λ c. ltb c n) l.subclass ≡ true → class_at g l r y bx < n
 unfolding class_at
 class_low g l r y bx n size maps subs =
-    entry_low l.subclass n _ (entry_low l.map (length l.subclass) _ (rw size (index-low _ _ _ _ _)) maps) subs
+    entry_low l.subclass n _ (entry_low l.map (length l.subclass) _ (rw size (index-low _ _ _)) maps) subs
 
 -- what holds of each class that is worked out, and of each that is kept, holds of those of a row
 pub classes_are : (P : ℕ → Type 0) (classes : List ℕ) (k m : ℕ) (f : ℕ → ℕ) → m ≤ length classes → ((i : ℕ) → i < k → P (f i)) → ((i : ℕ) → i < m → P (get_or classes i 0)) →

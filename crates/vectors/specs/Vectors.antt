@@ -7,7 +7,7 @@ use Rattle.definition.specs.declared.Given.{Given}
 use Rattle.definition.specs.Numbers.{sum_z, sum_n}
 use Rattle.definition.specs.Rows.{tab}
 use Rattle.definition.specs.Sample.{rounded}
-use Rattle.definition.specs.ClassIndex.{term, bin, feature, skip_sum, index_of}
+use Rattle.definition.specs.ClassIndex.{term, bin, feature, skip_sum, bins_of, index_of}
 use Rattle.definition.specs.Units.{Lent, sample_at, luma_at, class_of, final_sample}
 use Rattle.definition.specs.Planes.{padded_in, skip_bit, final_in, across, unit_number, plane_after, piece_at, plane_pieces}
 
@@ -80,7 +80,7 @@ unit0 = record {
 }
 
 unit0-holds : holds unit0 ≡ true
-unfolding holds final same map_from class_map unit0 sum_z sum_n rounded term bin feature skip_sum index_of sample_at luma_at class_of final_sample
+unfolding holds final same map_from class_map unit0 sum_z sum_n rounded term bin feature skip_sum bins_of index_of sample_at luma_at class_of final_sample
 unit0-holds = refl
 
 unit1 : Vector
@@ -132,7 +132,7 @@ unit1 = record {
 }
 
 unit1-holds : holds unit1 ≡ true
-unfolding holds final same map_from class_map unit1 sum_z sum_n rounded term bin feature skip_sum index_of sample_at luma_at class_of final_sample
+unfolding holds final same map_from class_map unit1 sum_z sum_n rounded term bin feature skip_sum bins_of index_of sample_at luma_at class_of final_sample
 unit1-holds = refl
 
 unit2 : Vector
@@ -177,7 +177,7 @@ unit2 = record {
 }
 
 unit2-holds : holds unit2 ≡ true
-unfolding holds final same map_from class_map unit2 sum_z sum_n rounded term bin feature skip_sum index_of sample_at luma_at class_of final_sample
+unfolding holds final same map_from class_map unit2 sum_z sum_n rounded term bin feature skip_sum bins_of index_of sample_at luma_at class_of final_sample
 unit2-holds = refl
 
 unit3 : Vector
@@ -224,7 +224,7 @@ unit3 = record {
 }
 
 unit3-holds : holds unit3 ≡ true
-unfolding holds final same map_from class_map unit3 sum_z sum_n rounded term bin feature skip_sum index_of sample_at luma_at class_of final_sample
+unfolding holds final same map_from class_map unit3 sum_z sum_n rounded term bin feature skip_sum bins_of index_of sample_at luma_at class_of final_sample
 unit3-holds = refl
 
 unit4 : Vector
@@ -272,7 +272,7 @@ unit4 = record {
 }
 
 unit4-holds : holds unit4 ≡ true
-unfolding holds final same map_from class_map unit4 sum_z sum_n rounded term bin feature skip_sum index_of sample_at luma_at class_of final_sample
+unfolding holds final same map_from class_map unit4 sum_z sum_n rounded term bin feature skip_sum bins_of index_of sample_at luma_at class_of final_sample
 unit4-holds = refl
 
 unit5 : Vector
@@ -323,7 +323,7 @@ unit5 = record {
 }
 
 unit5-holds : holds unit5 ≡ true
-unfolding holds final same map_from class_map unit5 sum_z sum_n rounded term bin feature skip_sum index_of sample_at luma_at class_of final_sample
+unfolding holds final same map_from class_map unit5 sum_z sum_n rounded term bin feature skip_sum bins_of index_of sample_at luma_at class_of final_sample
 unit5-holds = refl
 
 unit6 : Vector
@@ -371,7 +371,7 @@ unit6 = record {
 }
 
 unit6-holds : holds unit6 ≡ true
-unfolding holds final same map_from class_map unit6 sum_z sum_n rounded term bin feature skip_sum index_of sample_at luma_at class_of final_sample
+unfolding holds final same map_from class_map unit6 sum_z sum_n rounded term bin feature skip_sum bins_of index_of sample_at luma_at class_of final_sample
 unit6-holds = refl
 
 unit7 : Vector
@@ -426,7 +426,7 @@ unit7 = record {
 }
 
 unit7-holds : holds unit7 ≡ true
-unfolding holds final same map_from class_map unit7 sum_z sum_n rounded term bin feature skip_sum index_of sample_at luma_at class_of final_sample
+unfolding holds final same map_from class_map unit7 sum_z sum_n rounded term bin feature skip_sum bins_of index_of sample_at luma_at class_of final_sample
 unit7-holds = refl
 
 unit8 : Vector
@@ -475,7 +475,7 @@ unit8 = record {
 }
 
 unit8-holds : holds unit8 ≡ true
-unfolding holds final same map_from class_map unit8 sum_z sum_n rounded term bin feature skip_sum index_of sample_at luma_at class_of final_sample
+unfolding holds final same map_from class_map unit8 sum_z sum_n rounded term bin feature skip_sum bins_of index_of sample_at luma_at class_of final_sample
 unit8-holds = refl
 
 unit9 : Vector
@@ -526,7 +526,7 @@ unit9 = record {
 }
 
 unit9-holds : holds unit9 ≡ true
-unfolding holds final same map_from class_map unit9 sum_z sum_n rounded term bin feature skip_sum index_of sample_at luma_at class_of final_sample
+unfolding holds final same map_from class_map unit9 sum_z sum_n rounded term bin feature skip_sum bins_of index_of sample_at luma_at class_of final_sample
 unit9-holds = refl
 
 unit10 : Vector
@@ -572,7 +572,7 @@ unit10 = record {
 }
 
 unit10-holds : holds unit10 ≡ true
-unfolding holds final same map_from class_map unit10 sum_z sum_n rounded term bin feature skip_sum index_of sample_at luma_at class_of final_sample
+unfolding holds final same map_from class_map unit10 sum_z sum_n rounded term bin feature skip_sum bins_of index_of sample_at luma_at class_of final_sample
 unit10-holds = refl
 
 unit11 : Vector
@@ -619,7 +619,7 @@ unit11 = record {
 }
 
 unit11-holds : holds unit11 ≡ true
-unfolding holds final same map_from class_map unit11 sum_z sum_n rounded term bin feature skip_sum index_of sample_at luma_at class_of final_sample
+unfolding holds final same map_from class_map unit11 sum_z sum_n rounded term bin feature skip_sum bins_of index_of sample_at luma_at class_of final_sample
 unit11-holds = refl
 
 unit12 : Vector
@@ -672,7 +672,7 @@ unit12 = record {
 }
 
 unit12-holds : holds unit12 ≡ true
-unfolding holds final same map_from class_map unit12 sum_z sum_n rounded term bin feature skip_sum index_of sample_at luma_at class_of final_sample
+unfolding holds final same map_from class_map unit12 sum_z sum_n rounded term bin feature skip_sum bins_of index_of sample_at luma_at class_of final_sample
 unit12-holds = refl
 
 unit13 : Vector
@@ -720,7 +720,7 @@ unit13 = record {
 }
 
 unit13-holds : holds unit13 ≡ true
-unfolding holds final same map_from class_map unit13 sum_z sum_n rounded term bin feature skip_sum index_of sample_at luma_at class_of final_sample
+unfolding holds final same map_from class_map unit13 sum_z sum_n rounded term bin feature skip_sum bins_of index_of sample_at luma_at class_of final_sample
 unit13-holds = refl
 
 unit14 : Vector
@@ -774,7 +774,7 @@ unit14 = record {
 }
 
 unit14-holds : holds unit14 ≡ true
-unfolding holds final same map_from class_map unit14 sum_z sum_n rounded term bin feature skip_sum index_of sample_at luma_at class_of final_sample
+unfolding holds final same map_from class_map unit14 sum_z sum_n rounded term bin feature skip_sum bins_of index_of sample_at luma_at class_of final_sample
 unit14-holds = refl
 
 unit15 : Vector
@@ -826,7 +826,7 @@ unit15 = record {
 }
 
 unit15-holds : holds unit15 ≡ true
-unfolding holds final same map_from class_map unit15 sum_z sum_n rounded term bin feature skip_sum index_of sample_at luma_at class_of final_sample
+unfolding holds final same map_from class_map unit15 sum_z sum_n rounded term bin feature skip_sum bins_of index_of sample_at luma_at class_of final_sample
 unit15-holds = refl
 
 unit16 : Vector
@@ -870,7 +870,7 @@ unit16 = record {
 }
 
 unit16-holds : holds unit16 ≡ true
-unfolding holds final same map_from class_map unit16 sum_z sum_n rounded term bin feature skip_sum index_of sample_at luma_at class_of final_sample
+unfolding holds final same map_from class_map unit16 sum_z sum_n rounded term bin feature skip_sum bins_of index_of sample_at luma_at class_of final_sample
 unit16-holds = refl
 
 unit17 : Vector
@@ -917,7 +917,7 @@ unit17 = record {
 }
 
 unit17-holds : holds unit17 ≡ true
-unfolding holds final same map_from class_map unit17 sum_z sum_n rounded term bin feature skip_sum index_of sample_at luma_at class_of final_sample
+unfolding holds final same map_from class_map unit17 sum_z sum_n rounded term bin feature skip_sum bins_of index_of sample_at luma_at class_of final_sample
 unit17-holds = refl
 
 unit18 : Vector
@@ -966,7 +966,7 @@ unit18 = record {
 }
 
 unit18-holds : holds unit18 ≡ true
-unfolding holds final same map_from class_map unit18 sum_z sum_n rounded term bin feature skip_sum index_of sample_at luma_at class_of final_sample
+unfolding holds final same map_from class_map unit18 sum_z sum_n rounded term bin feature skip_sum bins_of index_of sample_at luma_at class_of final_sample
 unit18-holds = refl
 
 unit19 : Vector
@@ -1016,7 +1016,7 @@ unit19 = record {
 }
 
 unit19-holds : holds unit19 ≡ true
-unfolding holds final same map_from class_map unit19 sum_z sum_n rounded term bin feature skip_sum index_of sample_at luma_at class_of final_sample
+unfolding holds final same map_from class_map unit19 sum_z sum_n rounded term bin feature skip_sum bins_of index_of sample_at luma_at class_of final_sample
 unit19-holds = refl
 
 unit20 : Vector
@@ -1062,7 +1062,7 @@ unit20 = record {
 }
 
 unit20-holds : holds unit20 ≡ true
-unfolding holds final same map_from class_map unit20 sum_z sum_n rounded term bin feature skip_sum index_of sample_at luma_at class_of final_sample
+unfolding holds final same map_from class_map unit20 sum_z sum_n rounded term bin feature skip_sum bins_of index_of sample_at luma_at class_of final_sample
 unit20-holds = refl
 
 unit21 : Vector
@@ -1106,7 +1106,7 @@ unit21 = record {
 }
 
 unit21-holds : holds unit21 ≡ true
-unfolding holds final same map_from class_map unit21 sum_z sum_n rounded term bin feature skip_sum index_of sample_at luma_at class_of final_sample
+unfolding holds final same map_from class_map unit21 sum_z sum_n rounded term bin feature skip_sum bins_of index_of sample_at luma_at class_of final_sample
 unit21-holds = refl
 
 unit22 : Vector
@@ -1156,7 +1156,7 @@ unit22 = record {
 }
 
 unit22-holds : holds unit22 ≡ true
-unfolding holds final same map_from class_map unit22 sum_z sum_n rounded term bin feature skip_sum index_of sample_at luma_at class_of final_sample
+unfolding holds final same map_from class_map unit22 sum_z sum_n rounded term bin feature skip_sum bins_of index_of sample_at luma_at class_of final_sample
 unit22-holds = refl
 
 unit23 : Vector
@@ -1204,7 +1204,7 @@ unit23 = record {
 }
 
 unit23-holds : holds unit23 ≡ true
-unfolding holds final same map_from class_map unit23 sum_z sum_n rounded term bin feature skip_sum index_of sample_at luma_at class_of final_sample
+unfolding holds final same map_from class_map unit23 sum_z sum_n rounded term bin feature skip_sum bins_of index_of sample_at luma_at class_of final_sample
 unit23-holds = refl
 
 -- What the reference makes of random luma planes, each unit over the untouched plane, beside what the definition says of the whole: every byte, and the pieces.

@@ -1,24 +1,24 @@
 -- `classed::class_of` meets its contract: the call for the index is not refused, and the index is below the map's size.
-use Rattle.std.proofs.Common.{◌≡◌, ◌∙◌, ◌*◌, rules}
-use Rattle.std.specs.Prelude.{length, get_or}
-use Rattle.definition.specs.ClassIndex.{skip_factor, skip_sum, index_of}
+use Rattle.std.proofs.Common.{◌≡◌, ◌∙◌, rules}
+use Rattle.std.specs.Prelude.{length}
+use Rattle.definition.specs.ClassIndex.{skip_sum, bins_of, index_of}
 use Rattle.laws.proofs.Answers.{served}
 use Rattle.units.specs.Padded.{lent_of}
 use Rattle.units.proofs.Classes.{place_serves, index-low, entry_low}
 use Rattle.units.proofs.classed.class_of.Goals as goal
 
-pub unwrap-index-requires : goal.unwrap-index-requires
-unwrap-index-requires c =
+pub unwrap-answer-requires : goal.unwrap-answer-requires
+unwrap-answer-requires c =
     let p = c.requires.placed in
     served c.class_of_features.result (c.class_of_features.ensures.status_value ∙ place_serves _ _ _ _ p.0 p.1 p.2 p.3)
 
-pub bounds-l-index : goal.bounds-l-index
-bounds-l-index c =
+pub bounds-l-answer : goal.bounds-l-answer
+bounds-l-answer c =
     let l = lent_of c.args.unit.now in
     let p = c.args.place in
     let s = c.args.sums in
-    let i-is : c.unwrap-index.result ≡ index_of (get_or s 0 0) (get_or s 1 0) (get_or s 2 0) l.q (skip_factor * skip_sum l.noskip p.bh p.bx p.by) = search rules in
-    rw ((c.args.unit.now.inside.mapped c.requires.op_value).size, i-is) (index-low _ _ _ _ _)
+    let i-is : c.unwrap-answer.result.index ≡ index_of (bins_of s l.q (skip_sum l.noskip p.bh p.bx p.by)) = search rules in
+    rw ((c.args.unit.now.inside.mapped c.requires.op_value).size, i-is) (index-low _ _ _)
 
 pub bounds-l-from : goal.bounds-l-from
 bounds-l-from c =
@@ -26,5 +26,5 @@ bounds-l-from c =
     let p = c.args.place in
     let s = c.args.sums in
     let m = c.args.unit.now.inside.mapped c.requires.op_value in
-    let i-is : c.unwrap-index.result ≡ index_of (get_or s 0 0) (get_or s 1 0) (get_or s 2 0) l.q (skip_factor * skip_sum l.noskip p.bh p.bx p.by) = search rules in
-    rw c.from.ensures (entry_low l.map (length l.subclass) c.unwrap-index.result (rw (m.size, i-is) (index-low _ _ _ _ _)) m.maps)
+    let i-is : c.unwrap-answer.result.index ≡ index_of (bins_of s l.q (skip_sum l.noskip p.bh p.bx p.by)) = search rules in
+    rw c.from.ensures (entry_low l.map (length l.subclass) c.unwrap-answer.result.index (rw (m.size, i-is) (index-low _ _ _)) m.maps)
