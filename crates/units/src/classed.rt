@@ -5,7 +5,8 @@ ghost use Rattle.definition.specs.Blocks.{side};
 ghost use Rattle.definition.specs.Limits.{block_row_limit};
 ghost use Rattle.definition.specs.Rows.{tab, row_bytes, index_count};
 ghost use Rattle.definition.specs.Units.{classed};
-ghost use Rattle.definition.specs.ClassIndex.{last_column, skip_sum, bins_of, index_of};
+ghost use Rattle.definition.specs.ClassIndex.{last_column};
+ghost use Rattle.class_index.specs.Answers.{class_index_by};
 ghost use Rattle.model.proofs.Step.{class_at};
 ghost use Rattle.units.specs.Padded.{lent_of, padded};
 ghost use Rattle.units.specs.Step.{ring_of, Stays};
@@ -19,7 +20,7 @@ use definition::SIDE;
 fn class_of(unit: &Unit, sums: [u16; 3], place: Place) -> u8
     requires op_value { classed unit.now.op ≡ true }
     requires placed { (place.bx ≤ last_column) × (place.by < place.bh) × (place.bh ≤ block_row_limit) × (place.bh ≤ length unit.now.lent.now.noskip.now) }
-    ensures { let l = lent_of unit.now in result ≡ get_or l.subclass (get_or l.map (index_of (bins_of sums l.q (skip_sum l.noskip place.bh place.bx place.by))) 0) 0 }
+    ensures { let l = lent_of unit.now in result ≡ get_or l.subclass (get_or l.map (class_index_by sums l.noskip l.q place.bx place.by place.bh).index 0) 0 }
 {
     let l = unit.lent;
     let answer = class_index::class_of_features(sums, l.noskip, l.base_q, place).unwrap();
