@@ -182,14 +182,14 @@ def program_sites(file, text):
 
 # ---- the definition
 
-ABOVE = ('samples laws model vectors intops bounds operations blocks history card_laws plane_laws card_reader features padding qval class_index filter refusals units'
-         ' whole plane claims card_answer paused gihvendu').split()
+ABOVE = ('samples laws tables model vectors intops bounds operations blocks history card_laws plane_laws card_reader features padding qval class_index filter refusals units'
+         ' whole plane claims card_answer paused gihvendu skip_sums').split()
 # the crates that lean on a file most, a lower one first: they are tried first, behind `samples`
 NEAREST = {'Card': 'card_reader card_answer', 'Refusals': 'model operations refusals', 'ClassIndex': 'qval class_index features model', 'Sample': 'model vectors filter',
            'Padding': 'model operations padding', 'Blocks': 'blocks vectors', 'Units': 'model vectors', 'Rows': 'blocks features padding', 'Numbers': 'intops qval',
            'Leaves': 'blocks qval features class_index padding filter', 'Calls': 'units card_answer', 'Limits': 'bounds refusals',
            'Answers': 'laws blocks qval refusals',
-           'Planes': 'plane_laws vectors plane'}
+           'Planes': 'plane_laws vectors plane', 'SkipSums': 'laws tables class_index skip_sums'}
 # a field is a token of its own, with its dot
 RULE = re.compile(r'[()]|"(?:\\.|[^"\\])*"|\.?[^\s();.]+|[;.]')
 TURNED = {'ltb': ['leb'], 'leb': ['ltb'], '+': ['-'], '-': ['+'], '*': ['+'], '/': ['%'], '%': ['/'], '+ℤ': ['-ℤ'], '-ℤ': ['+ℤ'], '*ℤ': ['+ℤ'],

@@ -1,12 +1,13 @@
 //! Every width and height with every set of edge bits, for each operation, each pair and kind, and each
-//! shape of masks; the other choices go round. And the class index at every block.
+//! shape of masks; the other choices go round. And the class index at every block, and of every pattern of noskip bits.
 
 use gihvendu::get_class_lut_idx_8bpc;
 
-use crate::class_parts;
+use crate::class_parts::{self, Block};
 use crate::exec_context::ExecContext;
 use crate::random::Random;
 use crate::runs::{self, ROWS};
+use crate::skip_sums;
 use crate::units::{OPERATIONS, Operation, Spacing, Unit};
 use crate::whole::same_as_rust;
 
@@ -89,8 +90,43 @@ fn units(exec: &ExecContext, r: &mut Random, op: Operation) -> (usize, usize) {
     (k, differ)
 }
 
-/// The class index of every block of units of every height, over flat, mixed and extreme samples: against the Rust, and with its
-/// parts against a second reading.
+/// A class index over flat, mixed or extreme samples: against the Rust, and with its parts against a second reading.
+fn same_index(r: &mut Random, noskip: &[u16], turn: usize, block: Block) -> bool {
+    let (bx, by, bh) = block;
+    let q = quantizer(r, turn);
+    let rows = r.bytes(ROWS);
+    let first = r.below(10);
+    let indices = std::array::from_fn(|i| (first + i) % 10);
+    let rust = runs::class_index(&rows, &indices, noskip, q, bx, by, bh);
+    let read = class_parts::class_index(&rows, &indices, noskip, q, block);
+    let got = get_class_lut_idx_8bpc(&rows, &indices, noskip, q, bx, by, bh);
+    got == Ok(read) && read.index == rust
+}
+
+/// Every pattern of noskip bits around a block of each column, in the first, the middle and the last of three block rows and in
+/// an only one. Bits that lie outside the unit are dropped: there the block sees those of the clipped column or row.
+fn patterns(r: &mut Random) -> (usize, usize) {
+    let (mut k, mut differ) = (0, 0);
+    for pattern in 0..skip_sums::PATTERNS {
+        for bx in 0..16 {
+            for (by, bh) in [(0, 3), (1, 3), (2, 3), (0, 1)] {
+                let mut noskip = masks(r, MASKS - 1, bh);
+                for (row, mask) in noskip.iter_mut().enumerate() {
+                    let Some(i) = (row + 1).checked_sub(by).filter(|i| *i < 3) else {
+                        continue;
+                    };
+                    let placed = |bits: u16| (u32::from(bits) << bx >> 1) as u16;
+                    *mask = *mask & !placed(7) | placed(pattern >> (3 * i) & 7);
+                }
+                differ += usize::from(!same_index(r, &noskip, k, (bx, by, bh)));
+                k += 1;
+            }
+        }
+    }
+    (k, differ)
+}
+
+/// The class index of every block of units of every height.
 fn class_indices(r: &mut Random) -> (usize, usize) {
     let (mut k, mut differ) = (0, 0);
     for bh in 1..=16 {
@@ -99,14 +135,7 @@ fn class_indices(r: &mut Random) -> (usize, usize) {
             for shape in 0..MASKS {
                 for turn in 0..9 {
                     let noskip = masks(r, shape, bh);
-                    let q = quantizer(r, turn);
-                    let rows = r.bytes(ROWS);
-                    let first = r.below(10);
-                    let indices = std::array::from_fn(|i| (first + i) % 10);
-                    let rust = runs::class_index(&rows, &indices, &noskip, q, bx, by, bh);
-                    let read = class_parts::class_index(&rows, &indices, &noskip, q, (bx, by, bh));
-                    let got = get_class_lut_idx_8bpc(&rows, &indices, &noskip, q, bx, by, bh);
-                    differ += usize::from(got != Ok(read) || read.index != rust);
+                    differ += usize::from(!same_index(r, &noskip, turn, (bx, by, bh)));
                     k += 1;
                 }
             }
@@ -129,5 +158,6 @@ pub(crate) fn compare(seed: u64) -> bool {
         line(op.name(), units(&exec, &mut r, op));
     }
     line("get_class_lut_idx", class_indices(&mut r));
+    line(".. by pattern", patterns(&mut r));
     all
 }

@@ -11,7 +11,7 @@
 //!
 //!     TEALDUST_SRC=FOLDER cargo build --release --features linked
 //!
-//! Run (target/release/compare). All but vectors and bench print how much was compared and how much differs, and end with
+//! Run (target/release/compare). From leaves on all but bench print how much was compared and how much differs, and end with
 //! status 1 where anything does. The Rust indexes `left` without the left bit and, in kind 0, one luma column too many: it
 //! is lent those.
 //!
@@ -22,9 +22,11 @@
 //!     compare cards SEED FOLDER     writes a corpus of cards, their lengths and the answers expected (cards, lengths, stdout)
 //!     compare replay                prints what the Rust makes of the units of the Rattle program replay
 //!     compare traps                 prints what the Rust makes of the units of the Rattle program traps
+//!     compare skip_sums             prints the skip sum of each pattern of noskip bits, by a second reading, as the Rattle program
+//!                                   skip_sums has to
 //!     compare leaves SEED COUNT     COUNT random runs of each leaf, the class index also against a second reading of its parts
 //!     compare grid SEED             every width, height, set of edge bits, pair, kind and shape of masks as whole units, and
-//!                                   the class index of every block, with its parts
+//!                                   the class index of every block, with its parts, and of every pattern of noskip bits
 //!     compare units SEED COUNT      COUNT random whole units of each operation, every byte of the plane
 //!     compare advances SEED COUNT   COUNT random units of each operation in random lists of advances, refused calls and
 //!                                   overwritten rows, against the Rust's one call
@@ -70,6 +72,7 @@ mod refusals;
 mod replay;
 #[cfg(feature = "linked")]
 mod runs;
+mod skip_sums;
 #[allow(dead_code)]
 mod stand_ins;
 #[cfg(feature = "linked")]
@@ -91,7 +94,7 @@ include!(concat!(env!("OUT_DIR"), "/reference.rs"));
 
 fn usage() -> ! {
     eprintln!(
-        "usage: compare vectors | leaves | units | advances | planes | refusals SEED COUNT, grid SEED, cards SEED FOLDER, replay, traps, differences, bench [planes]"
+        "usage: compare vectors | leaves | units | advances | planes | refusals SEED COUNT, grid SEED, cards SEED FOLDER, replay, traps, skip_sums, differences, bench [planes]"
     );
     std::process::exit(2);
 }
@@ -149,6 +152,7 @@ fn main() {
         }
         ["replay"] => print!("{}", replay::lines()),
         ["traps"] => print!("{}", traps::lines()),
+        ["skip_sums"] => print!("{}", skip_sums::lines()),
         _ => linked(&words),
     }
 }

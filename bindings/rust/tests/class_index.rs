@@ -1,4 +1,4 @@
-//! The parts of a class index, by the samples of the scope and by hand.
+//! The parts of a class index, by the samples of the scope, by hand and by the printed skip sums.
 
 use gihvendu::{ClassIndex, get_class_lut_idx_8bpc, raw};
 
@@ -29,6 +29,17 @@ fn shares() {
             noskip[row] &= !(1 << (6 + column));
             assert_eq!(flat(&noskip, 0, (7, 1, 3)).1, share);
         }
+    }
+}
+
+/// Each pattern of noskip bits around a block: its skip sum is the line of that number that the program skip_sums prints.
+#[test]
+fn printed_skip_sums() {
+    let printed = include_str!("../../../crates/skip_sums/stdout");
+    assert_eq!(printed.lines().count(), 512);
+    for (pattern, line) in printed.lines().enumerate() {
+        let noskip = [0, 3, 6].map(|row| ((pattern >> row & 7) << 6) as u16);
+        assert_eq!(flat(&noskip, 0, (7, 1, 3)).1.to_string(), line);
     }
 }
 

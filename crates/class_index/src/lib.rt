@@ -1,11 +1,11 @@
 // looprestoration.rs: the class index of a block with its parts, at depth 8. Nothing is written.
 #![tactic(auto)]
 
-ghost use Rattle.std.specs.Prelude.{◌≡◌, ℕ, cond, ◌+◌, ◌-◌, ◌*◌, ◌^◌, ◌<◌, ◌≤◌, min, pos, ◌+ℤ◌, length, get_or, IfOk};
+ghost use Rattle.std.specs.Prelude.{◌≡◌, ℕ, cond, ◌+◌, ◌*◌, ◌<◌, ◌≤◌, pos, ◌+ℤ◌, length, get_or, IfOk};
 ghost use Rattle.definition.specs.Answers.{status_from};
 ghost use Rattle.definition.specs.Numbers.{bit_set, to_i32};
-ghost use Rattle.definition.specs.Limits.{block_row_limit};
 ghost use Rattle.definition.specs.ClassIndex.{last_column, features_of, term, bin, skip_sum, factors, bins_of, index_of};
+ghost use Rattle.definition.specs.SkipSums.{skip_pattern, pattern_count};
 ghost use Rattle.definition.specs.Refusals.{class_status};
 ghost use Rattle.definition.specs.Leaves.{block_flat, bad_place, place_status};
 ghost use Rattle.class_index.specs.Answers.{class_index_by, indexed_of};
@@ -14,7 +14,7 @@ use definition::{BLOCK_ROW_LIMIT, INDEX_COUNT, LAST_COLUMN, Refusal};
 use features::pcw_features;
 use intops::saturating_add;
 use qval::{get_qval_given_tskip, get_qval_lut_bin};
-use tables::PC_WIENER_NORMALIZER;
+use tables::{PC_WIENER_NORMALIZER, SKIP_SUMS};
 
 // A block by its column and its row, in a unit with bh block rows: any, as callers may hand in what is no block's.
 #[derive(Clone, Copy)]
@@ -71,48 +71,42 @@ impl From<Result<ClassIndex, Refusal>> for Indexed {
     }
 }
 
-// The place k - 1 further than at, clipped to 0 .. last.
-fn neighbour(at: usize, k: usize, last: usize) -> usize
-    requires { (at ≤ 2 ^ 16) × (k ≤ 2) }
-    ensures { result ≡ min (at + k - 1) last }
+// The noskip bit of a column, as a number.
+fn bit_at(mask: u16, column: usize) -> usize
+    requires { column ≤ last_column }
+    ensures { result ≡ cond (bit_set mask column) 1 0 }
 {
-    (at + k).saturating_sub(1).min(last)
+    usize::from(mask >> column) % 2
 }
 
-// What one neighbour adds: its share where its noskip bit is 0.
-fn skip_share(mask: u16, column: usize, share: u32) -> u32
-    ensures { (result ≡ cond (bit_set mask column) 0 share) × (result ≤ share) }
+// The noskip bits of three neighbours of one row, that of the first column the lowest.
+fn row_bits(mask: u16, columns: [usize; 3]) -> usize
+    requires { (j : ℕ) → j < 3 → get_or columns j 0 ≤ last_column }
+    ensures { (result ≡ cond (bit_set mask (get_or columns 0 0)) 1 0 + cond (bit_set mask (get_or columns 1 0)) 2 0 + cond (bit_set mask (get_or columns 2 0)) 4 0) × (result ≤ 7) }
 {
-    if bounds::is_set(usize::from(mask), column) {
-        0
-    } else {
-        share
-    }
+    bit_at(mask, columns[0]) + 2 * bit_at(mask, columns[1]) + 4 * bit_at(mask, columns[2])
 }
 
-// What three neighbours of one row add: those at the sides, and the one between them.
-fn skip_row(mask: u16, bx: usize, side: u32, middle: u32) -> u32
-    requires { (bx ≤ last_column) × (side ≤ 16) × (middle ≤ 16) }
-    ensures { (result ≡ cond (bit_set mask (min (bx + 0 - 1) last_column)) 0 side + cond (bit_set mask (min (bx + 1 - 1) last_column)) 0 middle + cond (bit_set mask (min (bx + 2 - 1) last_column)) 0 side) × (result ≤ 2 * side + middle) }
-{
-    let left = skip_share(mask, neighbour(bx, 0, LAST_COLUMN), side);
-    let centre = skip_share(mask, neighbour(bx, 1, LAST_COLUMN), middle);
-    let right = skip_share(mask, neighbour(bx, 2, LAST_COLUMN), side);
-    left + centre + right
-}
-
-// The skip sum: 16 for the block itself, 4 for a side, 1 for a corner, where the noskip bit is 0.
-#[tactic(auto, unfolding(definition::specs::ClassIndex::skip_sum, definition::specs::Numbers::sum_n))]
-fn skip_sum(noskip: &[u16], place: Place) -> u32
-    requires { (place.bx ≤ last_column) × (place.by < place.bh) × (place.bh ≤ block_row_limit) × (place.bh ≤ length noskip.now) }
-    ensures { (result ≡ skip_sum noskip.now place.bh place.bx place.by) × (result ≤ 36) }
+// The pattern of a block's nine noskip bits, from neighbours whose columns and rows are clipped.
+#[tactic(auto, using(crate::proofs::Patterns::of_block))]
+fn skip_pattern(noskip: &[u16], place: Place) -> usize
+    requires { (place.bx ≤ last_column) × (place.by < place.bh) × (place.bh ≤ length noskip.now) }
+    ensures { (result ≡ skip_pattern noskip.now place.bh place.bx place.by) × (result < pattern_count) }
 {
     let Place { bx, by, bh } = place;
-    let last = bh - 1;
-    let above = noskip[neighbour(by, 0, last)];
-    let here = noskip[neighbour(by, 1, last)];
-    let below = noskip[neighbour(by, 2, last)];
-    skip_row(above, bx, 1, 4) + skip_row(here, bx, 4, 16) + skip_row(below, bx, 1, 4)
+    let columns = [bx.saturating_sub(1), bx, (bx + 1).min(LAST_COLUMN)];
+    let above = row_bits(noskip[by.saturating_sub(1)], columns);
+    let here = row_bits(noskip[by], columns);
+    let below = row_bits(noskip[(by + 1).min(bh - 1)], columns);
+    above + 8 * here + 64 * below
+}
+
+// The skip sum, read from the table by the block's pattern.
+fn skip_sum(noskip: &[u16], place: Place) -> u32
+    requires { (place.bx ≤ last_column) × (place.by < place.bh) × (place.bh ≤ length noskip.now) }
+    ensures { (result ≡ skip_sum noskip.now place.bh place.bx place.by) × (result ≤ 36) }
+{
+    u32::from(SKIP_SUMS[skip_pattern(noskip, place)])
 }
 
 // The sums, scaled entry by entry. A product is at most 65535 * 3739 and narrowed by `as`.
@@ -172,10 +166,10 @@ fn lut_index(bins: [u32; 4]) -> u32
     512 * bins[0] + 64 * bins[1] + 8 * bins[2] + bins[3]
 }
 
-// The class index, from the features. Inlined, the tests of the noskip bits become shifts, which take longer.
+// The class index, from the features. Inlined, it makes a unit with pretrained sets 1 to 3 % slower.
 #[inline(never)]
 fn class_index(sums: [u16; 3], noskip: &[u16], base_q: i32, place: Place) -> ClassIndex
-    requires { (place.bx ≤ last_column) × (place.by < place.bh) × (place.bh ≤ block_row_limit) × (place.bh ≤ length noskip.now) }
+    requires { (place.bx ≤ last_column) × (place.by < place.bh) × (place.bh ≤ length noskip.now) }
     ensures { result ≡ class_index_by sums noskip.now base_q place.bx place.by place.bh }
 {
     let skip_sum = skip_sum(noskip, place);

@@ -1,5 +1,5 @@
 -- docs/SCOPE.md, 'The class index', at depth 8.
-use Rattle.std.specs.Prelude.{cond, List, [], ◌∷◌, ℕ, ◌+◌, ◌-◌, ◌*◌, ◌/◌, min, ℤ, pos, negsuc, neg_ℤ, nat_abs, ◌+ℤ◌, ◌-ℤ◌, ◌*ℤ◌, get_or}
+use Rattle.std.specs.Prelude.{Bool, cond, List, [], ◌∷◌, ℕ, ◌+◌, ◌-◌, ◌*◌, ◌/◌, min, ℤ, pos, negsuc, neg_ℤ, nat_abs, ◌+ℤ◌, ◌-ℤ◌, ◌*ℤ◌, get_or}
 use Rattle.std.specs.Int.Signed.{shr_z}
 use Rattle.definition.specs.Numbers.{to_i32, raised, sum_n, bit_set}
 
@@ -72,8 +72,11 @@ module _ (noskip : List ℕ) (bh bx by : ℕ) where
   abbrev pub skip_row : ℕ → ℕ
   skip_row i = min (by + i - 1) (bh - 1)
 
+  abbrev pub noskip_bit : ℕ → ℕ → Bool
+  noskip_bit i j = bit_set (get_or noskip (skip_row i) 0) (skip_column j)
+
   abbrev pub skip_share : ℕ → ℕ → ℕ
-  skip_share i j = cond (bit_set (get_or noskip (skip_row i) 0) (skip_column j)) 0 (share i j)
+  skip_share i j = cond (noskip_bit i j) 0 (share i j)
 
   unfoldable pub skip_sum : ℕ
   skip_sum = sum_n 3 (λ i. sum_n 3 (λ j. skip_share i j))

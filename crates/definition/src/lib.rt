@@ -147,6 +147,9 @@ pub const SCRATCH_ROWS: usize = 8;
 // The last column of the noskip bits.
 pub const LAST_COLUMN: usize = 15;
 
+// How many patterns nine noskip bits have.
+pub const PATTERN_COUNT: usize = 512;
+
 // The row indices of a state, the bytes to a row and the byte of the unit's first sample, and the bytes of ten rows.
 pub const INDEX_COUNT: usize = 10;
 

@@ -9,3 +9,5 @@ pub mod Passes
 pub mod Checks
 pub mod Inside
 pub mod Answers
+pub mod Made
+pub mod Patterns

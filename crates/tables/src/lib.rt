@@ -1,7 +1,9 @@
-// The constant tables of looprestoration.rs: the mode weights, and each filter's taps as signed offsets (dy, dx).
-// The functions that read one are inlined and called with constant places, so the compiler puts the number itself there. Read by a place that varies, as in a
-// quantizer's term that is asked for by itself, a table is laid on the stack at each use.
+// The constant tables of looprestoration.rs: the mode weights, the skip sums, and each filter's taps as signed offsets (dy, dx).
+// The weights and the taps are read by functions that are inlined and called with constant places, so the compiler puts the number itself there; in a quantizer's term that
+// is asked for by itself the weights are laid on the stack at each use. The skip sums are read by a place that varies, where they stand.
 #![tactic(auto)]
+
+use definition::PATTERN_COUNT;
 
 pub const MODE_WEIGHTS: [[i16; 3]; 4] = [
     [-527, 15325, 321],
@@ -11,6 +13,31 @@ pub const MODE_WEIGHTS: [[i16; 3]; 4] = [
 ];
 
 pub const MODE_OFFSETS: [i16; 4] = [-547, -21565, -573, -680];
+
+// The skip sum of each pattern of nine noskip bits; the program skip_sums prints them.
+pub const SKIP_SUMS: [u8; PATTERN_COUNT] = [
+    36, 35, 32, 31, 35, 34, 31, 30, 32, 31, 28, 27, 31, 30, 27, 26, 20, 19, 16, 15, 19, 18, 15, 14,
+    16, 15, 12, 11, 15, 14, 11, 10, 32, 31, 28, 27, 31, 30, 27, 26, 28, 27, 24, 23, 27, 26, 23, 22,
+    16, 15, 12, 11, 15, 14, 11, 10, 12, 11, 8, 7, 11, 10, 7, 6, 35, 34, 31, 30, 34, 33, 30, 29, 31,
+    30, 27, 26, 30, 29, 26, 25, 19, 18, 15, 14, 18, 17, 14, 13, 15, 14, 11, 10, 14, 13, 10, 9, 31,
+    30, 27, 26, 30, 29, 26, 25, 27, 26, 23, 22, 26, 25, 22, 21, 15, 14, 11, 10, 14, 13, 10, 9, 11,
+    10, 7, 6, 10, 9, 6, 5, 32, 31, 28, 27, 31, 30, 27, 26, 28, 27, 24, 23, 27, 26, 23, 22, 16, 15,
+    12, 11, 15, 14, 11, 10, 12, 11, 8, 7, 11, 10, 7, 6, 28, 27, 24, 23, 27, 26, 23, 22, 24, 23, 20,
+    19, 23, 22, 19, 18, 12, 11, 8, 7, 11, 10, 7, 6, 8, 7, 4, 3, 7, 6, 3, 2, 31, 30, 27, 26, 30, 29,
+    26, 25, 27, 26, 23, 22, 26, 25, 22, 21, 15, 14, 11, 10, 14, 13, 10, 9, 11, 10, 7, 6, 10, 9, 6,
+    5, 27, 26, 23, 22, 26, 25, 22, 21, 23, 22, 19, 18, 22, 21, 18, 17, 11, 10, 7, 6, 10, 9, 6, 5,
+    7, 6, 3, 2, 6, 5, 2, 1, 35, 34, 31, 30, 34, 33, 30, 29, 31, 30, 27, 26, 30, 29, 26, 25, 19, 18,
+    15, 14, 18, 17, 14, 13, 15, 14, 11, 10, 14, 13, 10, 9, 31, 30, 27, 26, 30, 29, 26, 25, 27, 26,
+    23, 22, 26, 25, 22, 21, 15, 14, 11, 10, 14, 13, 10, 9, 11, 10, 7, 6, 10, 9, 6, 5, 34, 33, 30,
+    29, 33, 32, 29, 28, 30, 29, 26, 25, 29, 28, 25, 24, 18, 17, 14, 13, 17, 16, 13, 12, 14, 13, 10,
+    9, 13, 12, 9, 8, 30, 29, 26, 25, 29, 28, 25, 24, 26, 25, 22, 21, 25, 24, 21, 20, 14, 13, 10, 9,
+    13, 12, 9, 8, 10, 9, 6, 5, 9, 8, 5, 4, 31, 30, 27, 26, 30, 29, 26, 25, 27, 26, 23, 22, 26, 25,
+    22, 21, 15, 14, 11, 10, 14, 13, 10, 9, 11, 10, 7, 6, 10, 9, 6, 5, 27, 26, 23, 22, 26, 25, 22,
+    21, 23, 22, 19, 18, 22, 21, 18, 17, 11, 10, 7, 6, 10, 9, 6, 5, 7, 6, 3, 2, 6, 5, 2, 1, 30, 29,
+    26, 25, 29, 28, 25, 24, 26, 25, 22, 21, 25, 24, 21, 20, 14, 13, 10, 9, 13, 12, 9, 8, 10, 9, 6,
+    5, 9, 8, 5, 4, 26, 25, 22, 21, 25, 24, 21, 20, 22, 21, 18, 17, 21, 20, 17, 16, 10, 9, 6, 5, 9,
+    8, 5, 4, 6, 5, 2, 1, 5, 4, 1, 0,
+];
 
 // The factors of the three features.
 pub const PC_WIENER_NORMALIZER: [u32; 3] = [3739, 3273, 3074];

@@ -1,4 +1,3 @@
-pub mod Made
 pub mod Edges
 pub mod Sources
 pub mod Firsts

@@ -1,7 +1,7 @@
 use Rattle.std.proofs.Common.{rules}
 use Rattle.definition.specs.Card.{skip_entry}
 use Rattle.definition.specs.Limits.{height_limit}
-use Rattle.units.proofs.Made.{made}
+use Rattle.laws.proofs.Made.{made}
 use Rattle.card_answer.proofs.spread.Goals as goal
 
 pub returns : goal.returns

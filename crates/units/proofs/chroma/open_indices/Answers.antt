@@ -3,7 +3,7 @@ use Rattle.std.proofs.Common.{cond, ◌%◌, rules}
 use Rattle.std.specs.Prelude.{ltb}
 use Rattle.definition.specs.declared.Operation.TheVariants.{Chroma}
 use Rattle.model.proofs.Opening.{open_index}
-use Rattle.units.proofs.Made.{made}
+use Rattle.laws.proofs.Made.{made}
 use Rattle.units.proofs.chroma.open_indices.Goals as goal
 
 pub returns : goal.returns

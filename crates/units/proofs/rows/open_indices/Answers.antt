@@ -2,7 +2,7 @@
 use Rattle.std.proofs.Common.{cond, rules}
 use Rattle.std.specs.Prelude.{ltb}
 use Rattle.model.proofs.Opening.{open_index}
-use Rattle.units.proofs.Made.{made}
+use Rattle.laws.proofs.Made.{made}
 use Rattle.units.proofs.rows.open_indices.Goals as goal
 
 pub returns : goal.returns
