@@ -10,6 +10,7 @@ ghost use Rattle.definition.specs.Refusals.{class_status};
 ghost use Rattle.definition.specs.Leaves.{block_flat, bad_place, place_status};
 ghost use Rattle.class_index.specs.Answers.{class_index_by, indexed_of};
 
+use bounds::is_set;
 use definition::{BLOCK_ROW_LIMIT, INDEX_COUNT, LAST_COLUMN, Refusal};
 use features::pcw_features;
 use intops::saturating_add;
@@ -71,20 +72,12 @@ impl From<Result<ClassIndex, Refusal>> for Indexed {
     }
 }
 
-// The noskip bit of a column, as a number.
-fn bit_at(mask: u16, column: usize) -> usize
-    requires { column ≤ last_column }
-    ensures { result ≡ cond (bit_set mask column) 1 0 }
-{
-    usize::from(mask >> column) % 2
-}
-
 // The noskip bits of three neighbours of one row, that of the first column the lowest.
 fn row_bits(mask: u16, columns: [usize; 3]) -> usize
-    requires { (j : ℕ) → j < 3 → get_or columns j 0 ≤ last_column }
     ensures { (result ≡ cond (bit_set mask (get_or columns 0 0)) 1 0 + cond (bit_set mask (get_or columns 1 0)) 2 0 + cond (bit_set mask (get_or columns 2 0)) 4 0) × (result ≤ 7) }
 {
-    bit_at(mask, columns[0]) + 2 * bit_at(mask, columns[1]) + 4 * bit_at(mask, columns[2])
+    let bit = |column| usize::from(is_set(usize::from(mask), column));
+    bit(columns[0]) + 2 * bit(columns[1]) + 4 * bit(columns[2])
 }
 
 // The pattern of a block's nine noskip bits, from neighbours whose columns and rows are clipped.
@@ -166,8 +159,7 @@ fn lut_index(bins: [u32; 4]) -> u32
     512 * bins[0] + 64 * bins[1] + 8 * bins[2] + bins[3]
 }
 
-// The class index, from the features. Inlined, it makes a unit with pretrained sets 1 to 3 % slower.
-#[inline(never)]
+// The class index, from the features.
 fn class_index(sums: [u16; 3], noskip: &[u16], base_q: i32, place: Place) -> ClassIndex
     requires { (place.bx ≤ last_column) × (place.by < place.bh) × (place.bh ≤ length noskip.now) }
     ensures { result ≡ class_index_by sums noskip.now base_q place.bx place.by place.bh }
