@@ -131,8 +131,18 @@ fn count(r: &mut Random, h: usize) -> usize {
     }
 }
 
+/// What is done after the opening and after each event of a list: it may replace the state, and says whether that went as it
+/// has to.
+type Between<'a> = &'a mut dyn FnMut(&mut State) -> bool;
+
 /// One unit in a random list; whether all of it is as it has to be.
-fn history(t: &mut Tally, r: &mut Random, exec: &ExecContext, u: &Unit) -> bool {
+fn history(
+    t: &mut Tally,
+    r: &mut Random,
+    exec: &ExecContext,
+    u: &Unit,
+    between: Between<'_>,
+) -> bool {
     let mut restored = u.plane.clone();
     u.for_rust().restore(exec, &mut restored);
     let begun = calls::open(u);
@@ -140,7 +150,7 @@ fn history(t: &mut Tally, r: &mut Random, exec: &ExecContext, u: &Unit) -> bool 
         return false;
     };
     let mut history = History::new(u, &restored, opened.clone());
-    let mut good = begun.kept && history.told();
+    let mut good = begun.kept && history.told() && between(&mut history.state);
     // Some lists end before the unit is finished; others go on after it for a while.
     let steps = 1 + r.below(2 * u.h + 8);
     let slow = r.once_in(2);
@@ -164,12 +174,18 @@ fn history(t: &mut Tally, r: &mut Random, exec: &ExecContext, u: &Unit) -> bool 
                 history.advance(rows)
             }
         };
+        good &= between(&mut history.state);
     }
     good && history.as_in_one(opened)
 }
 
 /// `count` units of each operation; whether none differs.
 pub(crate) fn compare(seed: u64, count: usize) -> bool {
+    run(seed, count, &mut |_| true)
+}
+
+/// The same with something more between the events.
+pub(crate) fn run(seed: u64, count: usize, between: Between<'_>) -> bool {
     let exec = ExecContext::new();
     let mut r = Random::new(seed);
     let mut all = true;
@@ -182,7 +198,7 @@ pub(crate) fn compare(seed: u64, count: usize) -> bool {
         for k in 0..count {
             let u = draw(&mut r, op, k);
             t.units += 1;
-            let good = history(&mut t, &mut r, &exec, &u);
+            let good = history(&mut t, &mut r, &exec, &u, between);
             t.differ += usize::from(!good);
         }
         print_line(op, &t);

@@ -3,7 +3,9 @@
 
 use std::path::Path;
 
+use crate::corpus;
 use crate::exec_context::ExecContext;
+use crate::lines::{Lines, digits, hex, other_bytes, other_order};
 use crate::looprestoration::ns_wiener_single_y_8bpc;
 use crate::random::Random;
 
@@ -58,20 +60,6 @@ fn filter_number(text: &[u8]) -> Result<i8, u8> {
     i8::try_from(n).map_err(|_| ILL_FORMED)
 }
 
-/// So many hex digits, in lower case.
-fn hex(text: &[u8], digits: usize) -> Result<Vec<u8>, u8> {
-    if text.len() != digits {
-        return Err(ILL_FORMED);
-    }
-    text.iter()
-        .map(|b| match b {
-            b'0'..=b'9' => Ok(b - b'0'),
-            b'a'..=b'f' => Ok(b - b'a' + 10),
-            _ => Err(ILL_FORMED),
-        })
-        .collect()
-}
-
 /// Whether a width or a height is within its limit.
 fn side(n: usize) -> bool {
     n.is_multiple_of(4) && (4..=64).contains(&n)
@@ -102,7 +90,7 @@ fn read(card: &[u8]) -> Result<Card, u8> {
     let skip = value(&mut rest, "skip")?
         .split(|&b| b == b',')
         .map(|group| {
-            let digits = hex(group, 4)?;
+            let digits = hex(group, 4).ok_or(ILL_FORMED)?;
             Ok(digits.iter().fold(0, |n, &d| 16 * n + u16::from(d)))
         })
         .collect::<Result<Vec<u16>, u8>>()?;
@@ -111,7 +99,7 @@ fn read(card: &[u8]) -> Result<Card, u8> {
     }
     let mut samples = Vec::new();
     for _ in 0..h {
-        let digits = hex(value(&mut rest, "row")?, 2 * w)?;
+        let digits = hex(value(&mut rest, "row")?, 2 * w).ok_or(ILL_FORMED)?;
         samples.extend(digits.chunks(2).map(|d| 16 * d[0] + d[1]));
     }
     if !rest.is_empty() {
@@ -124,10 +112,6 @@ fn read(card: &[u8]) -> Result<Card, u8> {
         skip,
         samples,
     })
-}
-
-fn digits(bytes: &[u8]) -> String {
-    bytes.iter().map(|b| format!("{b:02x}")).collect()
 }
 
 impl Card {
@@ -221,10 +205,7 @@ fn answer(card: &[u8]) -> (u8, String) {
     }
 }
 
-/// A card's lines without their byte 10: op, w, h, edges, filter, skip, then the rows.
-#[derive(Clone)]
-struct Lines(Vec<Vec<u8>>);
-
+// The places of a card's lines: the rows come last.
 const OP: usize = 0;
 const W: usize = 1;
 const H: usize = 2;
@@ -232,27 +213,6 @@ const EDGES: usize = 3;
 const FILTER: usize = 4;
 const SKIP: usize = 5;
 const ROW: usize = 6;
-
-impl Lines {
-    fn ended(&self, end: &[u8]) -> Vec<u8> {
-        self.0.iter().flat_map(|l| [l, end].concat()).collect()
-    }
-
-    fn bytes(&self) -> Vec<u8> {
-        self.ended(b"\n")
-    }
-
-    /// The card with another line in place of one.
-    fn with(&self, at: usize, line: impl AsRef<[u8]>) -> Vec<u8> {
-        let mut lines = self.clone();
-        lines.0[at] = line.as_ref().to_vec();
-        lines.bytes()
-    }
-
-    fn text(&self, at: usize) -> String {
-        String::from_utf8_lossy(&self.0[at]).into_owned()
-    }
-}
 
 /// The card of docs/SCOPE.md.
 fn first() -> Card {
@@ -464,77 +424,6 @@ fn other_lines(out: &mut Vec<Vec<u8>>, lines: &Lines, card: &Card) {
     }
 }
 
-/// Lines left out, doubled, joined or in another order, and other line ends.
-fn other_order(out: &mut Vec<Vec<u8>>, lines: &Lines) {
-    let n = lines.0.len();
-    for at in 0..n {
-        let mut less = lines.clone();
-        less.0.remove(at);
-        out.push(less.bytes());
-        let mut more = lines.clone();
-        more.0.insert(at, lines.0[at].clone());
-        out.push(more.bytes());
-        let mut empty = lines.clone();
-        empty.0.insert(at, Vec::new());
-        out.push(empty.bytes());
-        if at + 1 < n {
-            let mut other = lines.clone();
-            other.0.swap(at, at + 1);
-            out.push(other.bytes());
-            let mut joined = less.clone();
-            joined.0[at] = [&lines.0[at][..], &lines.0[at + 1][..]].concat();
-            out.push(joined.bytes());
-        }
-        out.push(lines.with(at, [&lines.0[at][..], b"\r"].concat()));
-    }
-    for end in [
-        &b"\r\n"[..],
-        b"\r",
-        b"\n\n",
-        b" \n",
-        b"\n ",
-        b"\n\r",
-        b"\0",
-        b"",
-    ] {
-        out.push(lines.ended(end));
-    }
-    let mut other = lines.clone();
-    other.0.reverse();
-    out.push(other.bytes());
-}
-
-/// Bytes after the end, before the start, changed, left out or put in.
-fn other_bytes(r: &mut Random, out: &mut Vec<Vec<u8>>, card: &[u8]) {
-    for byte in [0, 10, 13, 32, b'0', b'r', 255] {
-        out.push([card, &[byte]].concat());
-        out.push([&[byte], card].concat());
-    }
-    out.push([card, card].concat());
-    out.push([card, b"row=00000000\n"].concat());
-    out.push([b"\xef\xbb\xbf", card].concat());
-    for _ in 0..40 {
-        let mut other = card.to_vec();
-        let at = r.below(card.len());
-        // half of the new bytes are such as cards have
-        other[at] = if r.once_in(2) {
-            r.next() as u8
-        } else {
-            card[r.below(card.len())]
-        };
-        out.push(other);
-    }
-    for _ in 0..12 {
-        let mut other = card.to_vec();
-        other.remove(r.below(card.len()));
-        out.push(other);
-        let mut other = card.to_vec();
-        let byte = card[r.below(card.len())];
-        other.insert(r.below(card.len() + 1), byte);
-        out.push(other);
-    }
-}
-
 /// What follows a refused w or h is not read.
 fn refused_early(r: &mut Random, out: &mut Vec<Vec<u8>>) {
     let ends: [&[u8]; 9] = [
@@ -628,33 +517,7 @@ fn cards(seed: u64) -> Vec<Vec<u8>> {
     out
 }
 
-/// Writes the files cards (one after another), lengths (two bytes a card, low byte first) and stdout (the answers).
+/// Writes the cards, their lengths and the answers.
 pub(crate) fn write(seed: u64, folder: &Path) -> std::io::Result<()> {
-    let (mut all, mut lengths, mut answers) = (Vec::new(), Vec::new(), String::new());
-    let mut counts = [0usize; 15];
-    for card in cards(seed) {
-        let (status, text) = answer(&card);
-        counts[usize::from(status)] += 1;
-        lengths.extend(
-            u16::try_from(card.len())
-                .expect("a length of two bytes")
-                .to_le_bytes(),
-        );
-        all.extend(card);
-        answers.push_str(&text);
-    }
-    std::fs::write(folder.join("cards"), &all)?;
-    std::fs::write(folder.join("lengths"), &lengths)?;
-    std::fs::write(folder.join("stdout"), &answers)?;
-    eprintln!(
-        "{} cards of {} bytes, answers of {} bytes; status 0: {}, 1: {}, 2: {}, 14: {}",
-        counts.iter().sum::<usize>(),
-        all.len(),
-        answers.len(),
-        counts[0],
-        counts[1],
-        counts[2],
-        counts[14]
-    );
-    Ok(())
+    corpus::write(folder, "cards", &cards(seed), answer)
 }

@@ -24,12 +24,18 @@
 //!     compare traps                 prints what the Rust makes of the units of the Rattle program traps
 //!     compare skip_sums             prints the skip sum of each pattern of noskip bits, by a second reading, as the Rattle program
 //!                                   skip_sums has to
+//!     compare state_texts SEED FOLDER
+//!                                   writes a corpus of state texts, whole and damaged, their lengths and the answers expected by
+//!                                   a second reading (texts, lengths, stdout)
 //!     compare leaves SEED COUNT     COUNT random runs of each leaf, the class index also against a second reading of its parts
 //!     compare grid SEED             every width, height, set of edge bits, pair, kind and shape of masks as whole units, and
 //!                                   the class index of every block, with its parts, and of every pattern of noskip bits
 //!     compare units SEED COUNT      COUNT random whole units of each operation, every byte of the plane
 //!     compare advances SEED COUNT   COUNT random units of each operation in random lists of advances, refused calls and
 //!                                   overwritten rows, against the Rust's one call
+//!     compare texts SEED COUNT      COUNT random units of each operation as in advances, put away as text and taken back between any
+//!                                   two events; as many forged states, and damaged texts: every byte against a second writing
+//!                                   and a second reading
 //!     compare planes SEED COUNT     COUNT random luma planes in units of every size, one call by the port, against the Rust unit
 //!                                   by unit and a second reading of the rule sample by sample; and the call's refusals
 //!     compare refusals SEED COUNT   units and states at the limits of the table and past them, against a second reading of
@@ -52,20 +58,26 @@ mod calls;
 mod cards;
 #[cfg(feature = "linked")]
 mod class_parts;
+mod corpus;
 mod cuts;
+mod damaged;
 #[cfg(feature = "linked")]
 mod differences;
 #[cfg(feature = "linked")]
 mod disturb;
+mod forged;
 #[cfg(feature = "linked")]
 mod grid;
 #[cfg(feature = "linked")]
 mod leaves;
+mod lines;
 #[cfg(feature = "linked")]
 mod plane_refusals;
 mod plane_vectors;
 #[cfg(feature = "linked")]
 mod planes;
+#[cfg(feature = "linked")]
+mod put_away;
 mod random;
 #[cfg(feature = "linked")]
 mod refusals;
@@ -75,8 +87,11 @@ mod runs;
 mod skip_sums;
 #[allow(dead_code)]
 mod stand_ins;
+mod state_texts;
 #[cfg(feature = "linked")]
 mod table;
+#[cfg_attr(not(feature = "linked"), allow(dead_code))]
+mod texts;
 mod traps;
 #[cfg_attr(not(feature = "linked"), allow(dead_code))]
 mod units;
@@ -94,7 +109,7 @@ include!(concat!(env!("OUT_DIR"), "/reference.rs"));
 
 fn usage() -> ! {
     eprintln!(
-        "usage: compare vectors | leaves | units | advances | planes | refusals SEED COUNT, grid SEED, cards SEED FOLDER, replay, traps, skip_sums, differences, bench [planes]"
+        "usage: compare vectors | leaves | units | advances | texts | planes | refusals SEED COUNT, grid SEED, cards | state_texts SEED FOLDER, replay, traps, skip_sums, differences, bench [planes]"
     );
     std::process::exit(2);
 }
@@ -118,6 +133,7 @@ fn linked(words: &[&str]) {
         ["grid", seed] => grid::compare(printed(seed)),
         ["units", seed, count] => whole::compare(printed(seed), number(count)),
         ["advances", seed, count] => advances::compare(printed(seed), number(count)),
+        ["texts", seed, count] => put_away::compare(printed(seed), number(count)),
         ["planes", seed, count] => planes::compare(printed(seed), number(count)),
         ["refusals", seed, count] => refusals::compare(printed(seed), number(count)),
         ["differences"] => differences::compare(),
@@ -149,6 +165,9 @@ fn main() {
         ["vectors", seed, count] => print!("{}", vectors::file(number(seed), number(count))),
         ["cards", seed, folder] => {
             cards::write(number(seed), folder.as_ref()).expect("the folder can be written");
+        }
+        ["state_texts", seed, folder] => {
+            state_texts::write(number(seed), folder.as_ref()).expect("the folder can be written");
         }
         ["replay"] => print!("{}", replay::lines()),
         ["traps"] => print!("{}", traps::lines()),

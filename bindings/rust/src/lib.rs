@@ -14,6 +14,9 @@
 //! What is written over all four takes a [`Lent`], which says the [`Operation`] and holds what it alone is lent: [`restore`],
 //! or [`State::open`] and [`State::advance`].
 //!
+//! A unit that is stopped between two rows can be put away as lines of text and taken back by another process:
+//! [`State::to_text`] and [`State::from_text`].
+//!
 //! A whole luma plane, cut into units and restored in one call without borders: [`restore_plane`], with its numbers in
 //! [`PlaneUnits`].
 //!
@@ -44,6 +47,7 @@ mod plane;
 pub mod raw;
 mod refusal;
 mod state;
+mod text;
 mod whole;
 
 pub use class_index::{ClassIndex, get_class_lut_idx_8bpc};
@@ -52,6 +56,7 @@ pub use operation::{Lent, Operation, restore};
 pub use plane::{PlaneUnits, restore_plane};
 pub use refusal::Refusal;
 pub use state::State;
+pub use text::STATE_TEXT_LIMIT;
 pub use whole::{
     ns_wiener_multi_8bpc, ns_wiener_single_uv_8bpc, ns_wiener_single_y_8bpc, pc_wiener_8bpc,
 };

@@ -124,11 +124,11 @@ impl Default for State {
 
 // The answers have the status first, then what was done, then the state. `Opened` alone has the state before the status.
 
-/// What an opening answers.
+/// What an opening answers, and the reading of a state's text.
 #[repr(C)]
 #[derive(Clone, Debug, PartialEq, Eq)]
 pub struct Opened {
-    /// the state of the unit; of zeros where refused
+    /// the state of the unit, or that of the text; of zeros where refused
     pub state: State,
     /// see [`Refusal::from_status`](crate::Refusal::from_status)
     pub status: u8,
@@ -154,6 +154,16 @@ pub struct Restored {
     pub status: u8,
     /// the [pieces](crate::Pieces) that were restored; 0 where refused
     pub pieces: usize,
+}
+
+/// What writing a state's text answers.
+#[repr(C)]
+#[derive(Clone, Copy, Debug, PartialEq, Eq)]
+pub struct Written {
+    /// see [`Refusal::from_status`](crate::Refusal::from_status)
+    pub status: u8,
+    /// the bytes of the text; 0 where refused
+    pub len: usize,
 }
 
 /// What the class index answers.
@@ -298,4 +308,10 @@ functions! {
         state: State, count: usize, plane: &mut [u8], left: &[u8], top: &[u8], bottom: &[u8], filter: &[i8], luma_plane: &[u8],
         luma_top: &[u8], luma_bottom: &[u8], skip: &[u16],
     ) -> Advanced;
+
+    /// Writes the text of a state.
+    fn gihvendu_write_state(state: State, out: &mut [u8]) -> Written;
+
+    /// Reads the text of a state.
+    fn gihvendu_read_state(text: &[u8]) -> Opened;
 }

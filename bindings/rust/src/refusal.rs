@@ -1,8 +1,8 @@
 use std::error::Error;
 use std::fmt::{self, Display, Formatter};
 
-/// Why a call is declined: the numbers of the table in docs/SCOPE.md, 'Refusals', the lowest that applies, but 12, 13 and 15
-/// before all others. A declined call writes no byte.
+/// Why a call is declined: the numbers of the table in docs/SCOPE.md, 'Refusals', the lowest that applies, but 12, 13, 15
+/// and 17 before all others, 17 before 13. A declined call writes no byte.
 ///
 /// Number 14 belongs to the card and cannot come from here.
 #[repr(u8)]
@@ -17,7 +17,8 @@ pub enum Refusal {
     /// Chroma: another pair than (0, 0), (1, 0) and (1, 1), or a kind over 2.
     Subsampling = 4,
     /// A sample of the unit's own plane that is written or padded from lies outside; of a whole plane, it is under w × h
-    /// bytes; of the class index, its rows are under 760 bytes or a row index is over 9.
+    /// bytes; of the class index, its rows are under 760 bytes or a row index is over 9. The list that a state's text is written
+    /// to is shorter than the text.
     Plane = 5,
     /// With the left bit, the left list is under six bytes for each row.
     Left = 6,
@@ -40,11 +41,13 @@ pub enum Refusal {
     PlaneSides = 15,
     /// Whole plane: the scratch list is under 8 × w bytes.
     Scratch = 16,
+    /// The text is not of the form of a state's, or a number in it is past its field.
+    Text = 17,
 }
 
 impl Refusal {
     /// All of them, by their numbers.
-    pub const ALL: [Refusal; 15] = [
+    pub const ALL: [Refusal; 16] = [
         Refusal::Width,
         Refusal::Height,
         Refusal::Stride,
@@ -60,6 +63,7 @@ impl Refusal {
         Refusal::State,
         Refusal::PlaneSides,
         Refusal::Scratch,
+        Refusal::Text,
     ];
 
     /// The number in the table.
@@ -78,7 +82,8 @@ impl Refusal {
     /// assert_eq!(Refusal::from_status(14), None);
     /// assert_eq!(Refusal::from_status(15), Some(Refusal::PlaneSides));
     /// assert_eq!(Refusal::from_status(16), Some(Refusal::Scratch));
-    /// assert_eq!(Refusal::from_status(17), None);
+    /// assert_eq!(Refusal::from_status(17), Some(Refusal::Text));
+    /// assert_eq!(Refusal::from_status(18), None);
     /// ```
     pub fn from_status(status: u8) -> Option<Refusal> {
         Refusal::ALL.into_iter().find(|r| r.number() == status)
@@ -90,7 +95,7 @@ impl Refusal {
             return Ok(());
         }
         Err(Refusal::from_status(status)
-            .expect("by its contracts the library answers 0 to 13, 15 and 16"))
+            .expect("by its contracts the library answers 0 to 13 and 15 to 17"))
     }
 }
 
@@ -101,7 +106,9 @@ impl Display for Refusal {
             Refusal::Height => "the height is not a multiple of 4 in 4 to 64",
             Refusal::Stride => "a stride is too small or over 65,536",
             Refusal::Subsampling => "no such pair of subsampling, or no such kind",
-            Refusal::Plane => "a sample of the plane lies outside",
+            Refusal::Plane => {
+                "a sample of the plane lies outside, or the list for a text is too short"
+            }
             Refusal::Left => "the left list is too short",
             Refusal::Top => "a saved sample above lies outside",
             Refusal::Bottom => "a saved sample below lies outside",
@@ -114,6 +121,7 @@ impl Display for Refusal {
                 "a side of the plane is not a multiple of 4 in 4 to 1,024, or the unit size not one in 4 to 64"
             }
             Refusal::Scratch => "the scratch list is too short",
+            Refusal::Text => "the text is not of the form of a state's",
         };
         write!(f, "{what} ({})", self.number())
     }

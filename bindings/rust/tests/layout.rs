@@ -1,6 +1,8 @@
-//! The state crosses over whole, and so do a plane's numbers and lists: each is found where it was put.
+//! The state crosses over whole, and so do a plane's numbers and lists and the answers: each is found where it was put.
 
-use gihvendu::{Borders, Luma, LumaUnit, PlaneUnits, State, Unit, edges, raw, restore_plane};
+use gihvendu::{
+    Borders, Luma, LumaUnit, PlaneUnits, STATE_TEXT_LIMIT, State, Unit, edges, raw, restore_plane,
+};
 
 #[test]
 fn chroma_numbers() {
@@ -69,6 +71,26 @@ fn last_byte() {
         (handed.status, handed.pieces, handed.state),
         (13, 0, forged)
     );
+}
+
+/// A written text's answer has its length, which takes more than a byte, and a refused one its number and 0.
+#[test]
+fn written() {
+    let state = raw::State {
+        op: 4,
+        ..raw::State::default()
+    };
+    let mut out = [0; STATE_TEXT_LIMIT];
+    let answer = raw::gihvendu_write_state(state.clone(), &mut out);
+    // no text has a byte 0
+    let len = out.iter().position(|&b| b == 0).unwrap();
+    assert!(len > 255);
+    assert_eq!(answer, raw::Written { status: 0, len });
+
+    let shorter = raw::gihvendu_write_state(state, &mut out[..len - 1]);
+    assert_eq!(shorter, raw::Written { status: 5, len: 0 });
+    let none = raw::gihvendu_write_state(raw::State::default(), &mut out);
+    assert_eq!(none, raw::Written { status: 13, len: 0 });
 }
 
 /// 8 by 12 samples in units of 4, of which three are restored: two of the first row and the left one of the second. No two of

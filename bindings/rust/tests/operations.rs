@@ -1,130 +1,18 @@
 //! A unit of each operation by the call that takes any: it leaves what tealdust's function left of the same lists, and the
 //! call by name does no other.
 
+mod lists;
+
 use gihvendu::{
-    Borders, Classes, Lent, Luma, LumaUnit, Operation, Pieces, Refusal, State, Unit, edges,
+    Borders, Classes, Lent, LumaUnit, Operation, Pieces, Refusal, State, Unit,
     ns_wiener_multi_8bpc, ns_wiener_single_uv_8bpc, ns_wiener_single_y_8bpc, pc_wiener_8bpc, raw,
     restore,
 };
+use lists::{LUMA_UNIT, Lists, SKIP, UNIT, plane};
 
-/// 8 by 8 samples with borders on all sides.
-const UNIT: Unit = Unit {
-    w: 8,
-    h: 8,
-    edges: edges::LEFT | edges::RIGHT | edges::TOP | edges::BOTTOM,
-    stride: 16,
-    off: 2,
-    top_off: 4,
-    bottom_off: 5,
-};
-/// 4:2:0, the mean of two rows.
-const LUMA_UNIT: LumaUnit = LumaUnit {
-    stride: 24,
-    off: 4,
-    top_off: 5,
-    bottom_off: 6,
-    ss_hor: 1,
-    ss_ver: 1,
-    kind: 1,
-};
-/// The second of four blocks is masked.
-const SKIP: [u16; 8] = [2, 0, 0, 0, 0, 0, 0, 0];
 const PIECES: Pieces = 3 * 4;
 
 type Rows = [[u8; 8]; 8];
-
-fn bytes(n: usize, seed: usize) -> Vec<u8> {
-    let sample = |i: usize| 90 + (i * i + seed * i) % 61;
-    (0..n).map(|i| sample(i) as u8).collect()
-}
-
-fn taps(n: usize) -> Vec<i8> {
-    (0..n).map(|i| (i * 5 % 13) as i8 - 6).collect()
-}
-
-/// All that is lent but the plane.
-struct Lists {
-    left: Vec<u8>,
-    top: Vec<u8>,
-    bottom: Vec<u8>,
-    user: Vec<i8>,
-    pretrained: Vec<i16>,
-    map: Vec<u8>,
-    subclass: Vec<u8>,
-    luma_plane: Vec<u8>,
-    luma_top: Vec<u8>,
-    luma_bottom: Vec<u8>,
-}
-
-fn plane() -> Vec<u8> {
-    bytes(2 + 8 * 16, 3)
-}
-
-impl Lists {
-    fn new() -> Lists {
-        // The last of the 13 numbers of a pretrained set is the centre's.
-        let pretrained = taps(3 * 13).into_iter().enumerate();
-        let pretrained = pretrained.map(|(i, c)| if i % 13 == 12 { 120 } else { c.into() });
-        Lists {
-            left: bytes(6 * 8, 5),
-            top: bytes(50, 7),
-            bottom: bytes(50, 11),
-            user: taps(3 * 18),
-            pretrained: pretrained.collect(),
-            map: (0..4096).map(|i| ((i * 37 + i / 64) % 64) as u8).collect(),
-            subclass: (0..64).map(|i| i % 3).collect(),
-            luma_plane: bytes(400, 13),
-            luma_top: bytes(60, 17),
-            luma_bottom: bytes(60, 19),
-        }
-    }
-
-    fn borders(&self) -> Borders<'_> {
-        Borders {
-            left: &self.left,
-            top: &self.top,
-            bottom: &self.bottom,
-        }
-    }
-
-    fn classes<'a, F>(&'a self, filters: &'a [F]) -> Classes<'a, F> {
-        Classes {
-            filters,
-            map: &self.map,
-            subclass: &self.subclass,
-            noskip: &[1, 2],
-            base_q: 300,
-        }
-    }
-
-    fn luma(&self) -> Luma<'_> {
-        Luma {
-            plane: &self.luma_plane,
-            top: &self.luma_top,
-            bottom: &self.luma_bottom,
-        }
-    }
-
-    /// What an operation alone is lent.
-    fn lent(&self, operation: Operation) -> Lent<'_> {
-        match operation {
-            Operation::Luma => Lent::Luma {
-                filter: &self.user[..16],
-            },
-            Operation::User => Lent::User {
-                classes: self.classes(&self.user),
-            },
-            Operation::Pretrained => Lent::Pretrained {
-                classes: self.classes(&self.pretrained),
-            },
-            Operation::Chroma => Lent::Chroma {
-                filter: &self.user[..18],
-                luma_unit: LUMA_UNIT,
-                luma: self.luma(),
-            },
-        }
-    }
-}
 
 /// The plane with other samples in the unit's place.
 fn with_rows(rows: &Rows) -> Vec<u8> {

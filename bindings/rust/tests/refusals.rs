@@ -1,6 +1,6 @@
 //! Each number of the table of refusals: the least that is accepted, and what is declined beside it. Every call is made as a
 //! whole unit, as an opening and as an advance; a declined one must leave the plane and the state as they were. Those of a
-//! whole plane are in plane.rs.
+//! whole plane are in plane.rs, those of a state's text in texts.rs.
 
 use gihvendu::{
     Borders, Classes, Luma, LumaUnit, Pieces, Refusal, State, Unit, edges, get_class_lut_idx_8bpc,
@@ -423,7 +423,7 @@ fn lowest_number_first() {
 }
 
 /// All of the table but 14, which is the card's.
-const NUMBERS: [u8; 15] = [1, 2, 3, 4, 5, 6, 7, 8, 9, 10, 11, 12, 13, 15, 16];
+const NUMBERS: [u8; 16] = [1, 2, 3, 4, 5, 6, 7, 8, 9, 10, 11, 12, 13, 15, 16, 17];
 
 #[test]
 fn numbers_and_words() {

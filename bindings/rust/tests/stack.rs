@@ -1,5 +1,5 @@
-//! Every operation on a 64 by 64 unit, whole and opened and advanced, and a whole plane of 1,024 by 1,024, on a thread whose
-//! whole stack is 64 KiB.
+//! Every operation on a 64 by 64 unit, whole, and opened, advanced and put away, and a whole plane of 1,024 by 1,024, on a
+//! thread whose whole stack is 64 KiB.
 
 use gihvendu::{
     Borders, Classes, Lent, Luma, LumaUnit, PlaneUnits, State, Unit, get_class_lut_idx_8bpc,
@@ -78,6 +78,8 @@ fn in_64_kib() {
             let mut state = State::open(&plane, &UNIT, &borders, &lent, &skip).unwrap();
             let pieces = state.advance(64, &mut plane, &borders, &lent, &skip);
             assert_eq!((pieces, state.finished()), (Ok(PIECES), true));
+            let text = state.to_text().unwrap();
+            assert_eq!(State::from_text(text.as_bytes()), Ok(state));
         }
         let index = get_class_lut_idx_8bpc(&[0; 760], &[0; 10], &noskip, 0, 3, 2, 16);
         assert!(index.is_ok());

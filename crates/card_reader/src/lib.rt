@@ -8,7 +8,11 @@ ghost use Rattle.definition.specs.Limits.{width_limit, height_limit};
 ghost use Rattle.card_reader.specs.Answers.{reading_of, line_of, numbered, card_of, unit_of};
 ghost use Rattle.card_reader.specs.Lines.{digit_at, hex_at, Joins};
 
+mod numbers;
+
 use definition::{BLOCK_ROW_LIMIT, HEIGHT_LIMIT, Refusal, SIDE, WIDTH_LIMIT};
+pub use numbers::{read_classes, read_line, read_list};
+use text::end_of;
 
 // The samples of the largest unit.
 pub const PLANE_SIZE: usize = WIDTH_LIMIT * HEIGHT_LIMIT;
@@ -32,7 +36,7 @@ pub struct Card {
 }
 
 // The place behind a byte that has to stand here.
-fn read_byte(s: &[u8], at: usize, byte: u8) -> Option<usize>
+pub fn read_byte(s: &[u8], at: usize, byte: u8) -> Option<usize>
     ensures { line_of result Card·word ≡ ended s.now byte Card·word at }
 {
     if s.get(at) == Some(&byte) {
@@ -135,7 +139,7 @@ fn read_group(s: &[u8], at: usize, end: u8) -> Option<(u16, usize)>
 }
 
 // The bytes of a word.
-fn read_word(s: &[u8], at: usize, word: &[u8]) -> Option<usize>
+pub fn read_word(s: &[u8], at: usize, word: &[u8]) -> Option<usize>
     ensures { line_of result Card·word ≡ word_at s.now word.now at }
 {
     let mut next = at;
@@ -152,14 +156,6 @@ pub fn read_size(s: &[u8], at: usize, name: &[u8]) -> Option<(usize, usize)>
 {
     let next = read_word(s, at, name)?;
     read_decimal(s, next, b'\n')
-}
-
-// What ends number k of n: a comma, and byte 10 behind the last.
-fn end_of(n: usize, k: usize) -> u8
-    requires { k < n }
-    ensures { result ≡ end_of n k }
-{
-    if k + 1 == n { b'\n' } else { b',' }
 }
 
 // As many values as the list is long, one behind the other; value k is read by `read`.
@@ -203,7 +199,7 @@ fn read_skip(s: &[u8], at: usize, skip: &mut [u16]) -> Option<usize>
 
 // A row's line: two hex digits for each sample.
 #[tactic(auto, unfolding(definition::specs::Card::row_at))]
-fn read_row(s: &[u8], at: usize, row: &mut [u8]) -> Option<usize>
+pub fn read_row(s: &[u8], at: usize, row: &mut [u8]) -> Option<usize>
     ensures { line_of result row.new ≡ row_at s.now (length row.old) at }
 {
     let p = read_word(s, at, b"row=")?;

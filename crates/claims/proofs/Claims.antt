@@ -8,12 +8,13 @@ use native.Mathlib.Nat.{add-zero}
 use native.Mathlib.Decide.{ℕ_discrete}
 use native.Mathlib.Omega.{arith}
 use mir.Facts.{and_yes}
-use lib.Dec.{T, eqb, leb, leb→le}
+use lib.Dec.{T, eqb, leb, ltb, leb→le}
 use lib.IntN.{ℤ}
-use lib.ListN.{length, get_or}
+use lib.ListN.{length, get_or, take, drop}
 use lib.Seq.{length-sets}
-use borrow.Author.Tests.{ne_eqb}
+use borrow.Author.Tests.{ne_eqb, ltb-false}
 use Rattle.definition.specs.declared.Operation.{Operation}
+use Rattle.definition.specs.declared.Operation.TheVariants.{Luma, User, Pretrained, Chroma}
 use Rattle.definition.specs.declared.Given.{Given}
 use Rattle.definition.specs.Rows.{tab}
 use Rattle.definition.specs.Blocks.{side, mask_at, masked, pieces_of}
@@ -37,7 +38,22 @@ use Rattle.units.specs.Advances.{bad_state, status_by, status_of, units, answer,
 use Rattle.units.proofs.AllHistories.{histories}
 use Rattle.whole.specs.declared.Restored.{Restored}
 use Rattle.plane.specs.Plane.{PlaneRestored}
-use Rattle.claims.specs.Claims.{Works, WholePlane, Demand1, Demand2, Demand3}
+use Rattle.definition.specs.declared.Refusal.{Refusal}
+use Rattle.definition.specs.declared.Refusal.TheVariants.{Outside, State as BadState, Text}
+use Rattle.definition.specs.Answers.{status_from}
+use Rattle.definition.specs.Units.{number_of, operation_of}
+use Rattle.definition.specs.StateText.{state_text, lines_in}
+use Rattle.std.specs.Prelude.{Option, Some, None, Result, Ok, Err}
+use Rattle.laws.proofs.Answers.{number_some}
+use Rattle.card_laws.proofs.Planes.{front, behind}
+use Rattle.history.specs.History.{run, finished, ◌▷◌, put_away}
+use Rattle.units.specs.declared.Opened.{Opened}
+use Rattle.units.specs.declared.Written.{Written}
+use Rattle.units.specs.Openings.{opened_of, open_state}
+use Rattle.units.specs.Histories.{unit}
+use Rattle.units.specs.Texts.{lines_of, misshapen, shaped_as, text_by, text_of, fitting, length_from, put_from, state_found, state_if, state_by, state_in, back_by, back}
+use Rattle.units.proofs.RoundTrip.{back-again, text-again, text-short}
+use Rattle.claims.specs.Claims.{Works, WholePlane, ComesBack, Demand1, Demand2, Demand3, Texts}
 
 -- REFUSED
 zeros-state : (status : ℕ) (s : State) → status ≢ 0 → state_unless status s ≡ no_state
@@ -174,6 +190,105 @@ module _ (r : Restored) (w h u count : ℕ) (filter : List ℤ) (skip s s' p q :
   whole-plane : WholePlane r w h u count filter skip p q
   whole-plane = record { here = λ z. (units-done z).here; behind = plane-behind; every_size = plane-all }
 
+-- A STATE PUT AWAY AND TAKEN BACK
+-- a state that has no text is refused with 13, and so is a text that is of the form and gives no state
+text_or : (P : Result (List ℕ) Refusal → Type 0) → ((t : List ℕ) → P (Ok t)) → P (Err BadState) → (s : State) → P (text_of s)
+unfolding text_of
+text_or P some none s = go (operation_of s.op)
+  where
+    either : (b : Bool) (op : Operation) → P (text_by (cond b (Err BadState) (Ok op)) s)
+    either true op = none
+    either false op = some (state_text (lines_of op s))
+
+    go : (o : Option Operation) → P (text_by (shaped_as o s) s)
+    go (Some op) = either (misshapen op s) op
+    go None = none
+
+state_or : (P : Result State Refusal → Type 0) → ((s : State) → P (Ok s)) → P (Err BadState) → P (Err Text) → (t : List ℕ) → P (state_in t)
+unfolding state_in
+state_or P some none not t = go (state_found (lines_in t))
+  where
+    either : (b : Bool) (op : Operation) (s : State) → P (state_if (cond b (Err BadState) (Ok op)) s)
+    either true op s = none
+    either false op s = some s
+
+    shape : (o : Option Operation) (s : State) → P (state_if (shaped_as o s) s)
+    shape (Some op) s = either (misshapen op s) op s
+    shape None s = none
+
+    go : (x : Option State) → P (state_by x)
+    go (Some s) = shape (operation_of s.op) s
+    go None = not
+
+write_number : (s : State) (room : ℕ) → status_from (fitting room (text_of s)) ≢ 0 → status_from (fitting room (text_of s)) ≢ 5 → status_from (fitting room (text_of s)) ≡ 13
+write_number s room = text_or (λ x. status_from (fitting room x) ≢ 0 → status_from (fitting room x) ≢ 5 → status_from (fitting room x) ≡ 13) (λ t. fits (ltb room (length t)) t) (λ h k. refl) s
+  where
+    fits : (b : Bool) (t : List ℕ) → status_from (cond b (Err Outside) (Ok t)) ≢ 0 → status_from (cond b (Err Outside) (Ok t)) ≢ 5 → status_from (cond b (Err Outside) (Ok t)) ≡ 13
+    fits true t h k = absurd (k refl)
+    fits false t h k = absurd (h refl)
+
+read_number : (t : List ℕ) → status_from (state_in t) ≢ 0 → status_from (state_in t) ≢ 17 → status_from (state_in t) ≡ 13
+read_number = state_or (λ x. status_from x ≢ 0 → status_from x ≢ 17 → status_from x ≡ 13) (λ s h k. absurd (h refl)) (λ h k. refl) (λ h k. absurd (k refl))
+
+-- what a writing leaves, by what there was to write
+pub record Wrote (r : Written) (x : Result (List ℕ) Refusal) (p q : List ℕ) : Type 0 where
+  refused : r.status ≢ 0 → (r.len ≡ 0) × (q ≡ p)
+  stands : r.status ≡ 0 → (x ≡ Ok (take r.len q)) × (r.len ≤ length p) × (drop r.len q ≡ drop r.len p)
+
+wrote : (r : Written) (x : Result (List ℕ) Refusal) (p q : List ℕ) → r.status ≡ status_from (fitting (length p) x) → r.len ≡ length_from (fitting (length p) x) →
+    q ≡ put_from (fitting (length p) x) p → Wrote r x p q
+wrote r (Err e) p q es el eq = record { refused = λ h. (el, eq); stands = λ h. absurd (number_some e (sym es ∙ h)) }
+wrote r (Ok t) p q es el eq = go (ltb (length p) (length t)) refl es el eq
+  where
+    go : (b : Bool) → ltb (length p) (length t) ≡ b → r.status ≡ status_from (cond b (Err Outside) (Ok t)) → r.len ≡ length_from (cond b (Err Outside) (Ok t)) →
+        q ≡ put_from (cond b (Err Outside) (Ok t)) p → Wrote r (Ok t) p q
+    go true f es el eq = record { refused = λ h. (el, eq); stands = λ h. absurd (some-five (sym es ∙ h)) }
+      where
+        some-five : ◌≡◌ {A = ℕ} 5 0 → ⊥
+        some-five e = omega (arith, e)
+    go false f es el eq =
+        let l : length t ≤ length p = ltb-false (length p) (length t) f in
+        record {
+          refused = λ h. absurd (h es);
+          stands = λ h. rw (el, eq) (ap Ok (sym (front t (drop (length t) p) (length t) refl)), l, behind t (drop (length t) p) (length t) refl);
+        }
+
+read_state : (r : Opened) (t : List ℕ) → r ≡ opened_of (state_in t) → (r.status ≢ 0 → r.state ≡ no_state) × (r.status ≡ 0 → state_in t ≡ Ok r.state)
+read_state r t e = rw e (go (state_in t))
+  where
+    go : (x : Result State Refusal) → ((opened_of x).status ≢ 0 → (opened_of x).state ≡ no_state) × ((opened_of x).status ≡ 0 → x ≡ Ok (opened_of x).state)
+    go (Ok s) = ((λ h. absurd (h refl)), (λ h. refl))
+    go (Err f) = ((λ h. refl), (λ h. absurd (number_some f h)))
+
+-- a state of an operation that is taken back as it was put away comes back
+same_op : (c : Call) (s : State) (p : List ℕ) → (answer c s p).state.op ≡ s.op
+same_op c s p =
+    elim (ℕ_discrete (status_of c s p) 0) [
+      | yes z ↦ rw (served c s p z) (walked c.op c.lent (todo units c s) s p).op
+      | no z ↦ rw (unchanged c s p z)
+    ]
+
+comes_back : (op : Operation) (s : State) → s.op ≡ number_of op → back s ≡ s → ComesBack s
+unfolding back no_state
+comes_back op s o e = go (text_of s) refl e
+  where
+    some_op : (k : Operation) → number_of k ≢ 0
+    some_op Luma h = omega (arith, h)
+    some_op User h = omega (arith, h)
+    some_op Pretrained h = omega (arith, h)
+    some_op Chroma h = omega (arith, h)
+
+    none : no_state ≡ s → ⊥
+    none h = some_op op (sym o ∙ sym (ap (λ (x : State). x.op) h))
+
+    read : (t : List ℕ) (y : Result State Refusal) → text_of s ≡ Ok t → state_in t ≡ y → (opened_of y).state ≡ s → ComesBack s
+    read t (Ok x) f g h = record { text = t; written = f; read = g ∙ ap Ok h }
+    read t (Err r) f g h = absurd (none h)
+
+    go : (x : Result (List ℕ) Refusal) → text_of s ≡ x → back_by x ≡ s → ComesBack s
+    go (Ok t) f h = read t (state_in t) f refl h
+    go (Err r) f h = absurd (none h)
+
 pub demand_1 : Demand1
 demand_1 =
     record {
@@ -185,6 +300,10 @@ demand_1 =
       planes = λ r w h u count filter skip s s' p q a. (a.status, plane-refused r w h u count filter skip s s' p q a);
       numbers = table_most;
       state_numbers = state_most;
+      writes = λ r s p q w. let x = wrote r (text_of s) p q w.status w.len w.out in (x.refused, x.stands);
+      reads = read_state;
+      write_numbers = write_number;
+      read_numbers = read_number;
     }
 
 masks : (op : Operation) (n : Given) (l : Lent) (p : List ℕ) (y x : ℕ) → masked (mask_at l.skip y) (x / side) ≡ true →
@@ -202,3 +321,18 @@ demand_2 =
 
 pub demand_3 : Demand3
 demand_3 = histories
+
+pub texts : Texts
+unfolding open_state
+texts =
+    record {
+      back = back-again;
+      again = text-again;
+      short = text-short;
+      handed_out = λ op n l p z t H v.
+          let u = unit op n l p in
+          let before = histories op n l p z H v in
+          let after = histories op n l p z (H ▷ put_away) (v, t) in
+          let o : (run u H).state.op ≡ number_of op = ap (λ (s : State). s.op) (before.state tt refl) ∙ same_op (u.own tt (finished u H)) u.first u.plane in
+          comes_back op (run u H).state o (after.state tt refl ∙ sym (before.state tt refl));
+    }

@@ -1,7 +1,7 @@
 -- docs/SCOPE.md, 'Refusals': an answer is a value, or in its place the reason why the call is refused. Its status is 0, or the number that the table has for that reason.
 use Rattle.std.specs.Prelude.{ℕ, Result, Ok, Err}
 use Rattle.definition.specs.declared.Refusal.{Refusal}
-use Rattle.definition.specs.declared.Refusal.TheVariants.{Width, Height, Stride, Sampling, Outside, Left, Top, Bottom, Masks, Filters, Luma, Block, State, Card, Plane, Scratch}
+use Rattle.definition.specs.declared.Refusal.TheVariants.{Width, Height, Stride, Sampling, Outside, Left, Top, Bottom, Masks, Filters, Luma, Block, State, Card, Plane, Scratch, Text}
 
 abbrev pub number : Refusal → ℕ
 number Width = 1
@@ -20,6 +20,7 @@ number State = 13
 number Card = 14
 number Plane = 15
 number Scratch = 16
+number Text = 17
 
 abbrev pub status_from : {A : Type 0} → Result A Refusal → ℕ
 status_from (Ok v) = 0

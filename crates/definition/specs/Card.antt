@@ -1,5 +1,5 @@
 -- docs/SCOPE.md, 'The card': what a card means, for every input whatsoever, and the text that is printed for it. A place is a position in the input.
-use Rattle.std.specs.Prelude.{cond, not, ◌&&◌, List, [], ◌∷◌, ◌++◌, ℕ, zero, suc, ◌+◌, ◌-◌, ◌*◌, ◌/◌, ◌%◌, ltb, leb, eqb, ℤ, pos, negsuc, length, get_or, take, drop}
+use Rattle.std.specs.Prelude.{cond, not, ◌&&◌, List, [], ◌∷◌, ◌++◌, ℕ, zero, suc, ◌+◌, ◌-◌, ◌*◌, ◌/◌, ◌%◌, ltb, leb, eqb, ℤ, pos, negsuc, length, get_or, take, drop, decimal}
 use Prim.Native.Char.{code}
 use Prim.Native.String.{String, [] as empty, ◌∷◌ as ◌then◌}
 use Rattle.definition.specs.declared.Operation.TheVariants.{Luma}
@@ -224,13 +224,6 @@ filtered u = pieces_of (spread u.skip) (u.w / side) 0 u.h
 abbrev pub glyph : ℕ → ℕ
 glyph d = cond (ltb d 10) (48 + d) (87 + d)
 
--- a decimal of at most four digits: a digit for 1000, 100 and 10 where the number reaches it, and the last
-abbrev pub higher : ℕ → ℕ → List ℕ
-higher d n = cond (ltb n d) [] (glyph (n / d % 10) ∷ [])
-
-unfoldable pub decimal_text : ℕ → List ℕ
-decimal_text n = higher 1000 n ++ higher 100 n ++ higher 10 n ++ (glyph (n % 10) ∷ [])
-
 abbrev pub hex_text : List ℕ → List ℕ
 hex_text [] = []
 hex_text (b ∷ bs) = glyph (b / 16) ∷ glyph (b % 16) ∷ hex_text bs
@@ -253,8 +246,9 @@ status_name = ascii "status="
 abbrev pub filtered_name : List ℕ
 filtered_name = ascii "filtered="
 
+-- a name and a number
 unfoldable pub line_text : List ℕ → ℕ → List ℕ
-line_text name n = name ++ decimal_text n ++ (newline ∷ [])
+line_text name n = name ++ (decimal n ++ (newline ∷ []))
 
 abbrev pub head_text : ℕ → ℕ → List ℕ
 head_text status pieces = line_text status_name status ++ line_text filtered_name pieces

@@ -14,3 +14,4 @@ pub mod Refusals
 pub mod Leaves
 pub mod Card
 pub mod SkipSums
+pub mod StateText

@@ -1,5 +1,5 @@
 -- docs/SCOPE.md, 'The padded sample and the final sample': the padded sample at a row and a column of a unit, and its final sample, over the plane as it was when the unit was opened.
-use Rattle.std.specs.Prelude.{Bool, true, false, cond, ◌||◌, List, ℕ, zero, suc, ◌+◌, ◌-◌, ◌*◌, ◌/◌, ◌^◌, min, ltb, ℤ, pos, negsuc, ◌+ℤ◌, ◌*ℤ◌, get_or}
+use Rattle.std.specs.Prelude.{Bool, true, false, cond, ◌||◌, List, ℕ, zero, suc, ◌+◌, ◌-◌, ◌*◌, ◌/◌, ◌^◌, min, ltb, eqb, ℤ, pos, negsuc, ◌+ℤ◌, ◌*ℤ◌, get_or, Option, Some, None}
 use Rattle.definition.specs.declared.Operation.{Operation}
 use Rattle.definition.specs.declared.Operation.TheVariants.{Luma, User, Pretrained, Chroma}
 use Rattle.definition.specs.declared.Given.{Given}
@@ -21,6 +21,12 @@ number_of Luma = 1
 number_of User = 2
 number_of Pretrained = 3
 number_of Chroma = 4
+
+-- .. and the operation that has a number
+abbrev pub operation_of : ℕ → Option Operation
+operation_of n =
+    cond (eqb n (number_of Luma)) (Some Luma)
+    (cond (eqb n (number_of User)) (Some User) (cond (eqb n (number_of Pretrained)) (Some Pretrained) (cond (eqb n (number_of Chroma)) (Some Chroma) None)))
 
 -- the operations that have classes, and the one that reads luma rows beside its own
 abbrev pub classed : Operation → Bool

@@ -34,6 +34,7 @@ pub enum Refusal {
     Card = 14,
     Plane = 15,
     Scratch = 16,
+    Text = 17,
 }
 
 impl From<Refusal> for u8 {
@@ -165,3 +166,6 @@ pub const LUMA_ROW_BYTES: usize = 140;
 pub const LUMA_ROWS_AT: usize = 5 * ROW_BYTES;
 
 pub const STATE_BYTES: usize = LUMA_ROWS_AT + 5 * LUMA_ROW_BYTES;
+
+// The bytes of the longest text of a state: of op, of the lines of numbers, of ten rows, and of the lines of numbers behind them.
+pub const STATE_TEXT_LIMIT: usize = 2887;

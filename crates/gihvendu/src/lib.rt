@@ -1,5 +1,5 @@
-// The leaves, the whole units, the units that can be broken off and whole planes, for programs in C or Rust: each function hands on
-// what it is lent, and promises what the function promises that it calls.
+// The leaves, the whole units, the units that can be broken off, the texts of their states and whole planes, for programs in C or Rust: each function
+// hands on what it is lent, and promises what the function promises that it calls.
 // A slice is a pointer and a length, an array one pointer, a struct as C passes it.
 // The operations on units and on a plane stand in a file each. Parameters are what C hands over, one by one.
 #![tactic(auto)]
@@ -25,6 +25,7 @@ pub mod open_c;
 pub mod open_n;
 pub mod open_p;
 pub mod open_y;
+pub mod texts;
 pub mod whole_c;
 pub mod whole_n;
 pub mod whole_p;

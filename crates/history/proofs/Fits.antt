@@ -13,9 +13,11 @@ use Rattle.history.proofs.Lawful.{Like, Lawful, Served, Refused, holds}
 use Rattle.history.proofs.Steps.{Stepped, One, many, lie-apart}
 
 -- a unit of h rows of w samples, stride apart from off on, that was opened over the plane
-pub record Frame (S C A : Type 0) : Type 0 where
+pub record Frame (S C A : Type 0) : Type 1 where
   pub own : A → ℕ → C
   pub ok : A → Bool
+  pub back : S → S
+  pub typed : Type 0
   pub w : ℕ
   pub h : ℕ
   pub off : ℕ
@@ -31,6 +33,8 @@ unit_of o f =
       answer = advanced o;
       own = f.own;
       ok = f.ok;
+      back = f.back;
+      typed = f.typed;
       rows = o.rows;
       complete = o.complete;
       w = f.w;
@@ -55,6 +59,7 @@ module _ {S C A : Type 0} (o : Advancing S C) (f : Frame S C A) (Reached : ℕ �
     pub admits : (a : A) (n k : ℕ) (s : S) (p : List ℕ) → f.ok a ≡ true → Reached k s → k ≤ f.h → Like (unit_of o f) k p → o.status (f.own a n) s p ≡ 0
     pub pieces : (a : A) (n k m : ℕ) (s : S) → Reached k s → o.pieces (f.own a n) s m ≡ f.pieces a k m
     pub one : (a : A) (n : ℕ) → One (unit_of o f) a Reached (o.step (f.own a n))
+    pub backs : f.typed → (k : ℕ) (s : S) → Reached k s → k ≤ f.h → f.back s ≡ s
 
   module _ (t : Fits) where
     declines : (c : C) (s : S) (p : List ℕ) → (advanced o c s p).status ≢ 0 → Refused (unit_of o f) s p (advanced o c s p)
@@ -94,6 +99,7 @@ module _ {S C A : Type 0} (o : Advancing S C) (f : Frame S C A) (Reached : ℕ �
           only = t.only;
           refuses = declines;
           serves = serves;
+          backs = t.backs;
         }
 
     -- DEMAND 3 of any operation: a history of any length

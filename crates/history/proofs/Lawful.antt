@@ -11,7 +11,7 @@ use lib.ListN.{length, get_or, set, length-set}
 use lib.Seq.{get_or-set_same, get_or-set_other}
 use lib.Dec.{eqb, leb}
 use borrow.Author.Tests.{eq-eqb, ne_eqb, le-leb, lt-leb}
-use Rattle.history.specs.History.{Out, Opened, Event, advance, refused, refused_on, write, History, opened, ◌▷◌, World, act, run, sum, finished, last, Valid, Off, After}
+use Rattle.history.specs.History.{Out, Opened, Event, advance, refused, refused_on, write, put_away, History, opened, ◌▷◌, World, act, run, sum, finished, last, Valid, Off, After}
 
 min0 : (h : ℕ) → min h 0 ≡ 0
 min0 h = omega arith
@@ -54,6 +54,7 @@ module _ {S C A : Type 0} (u : Opened S C A) where
     pub only : (k : ℕ) (s t : S) → Reached k s → Reached k t → s ≡ t
     pub refuses : (c : C) (s : S) (p : List ℕ) → (u.answer c s p).status ≢ 0 → Refused s p (u.answer c s p)
     pub serves : (a : A) (n k : ℕ) (s : S) (p : List ℕ) → u.ok a ≡ true → Reached k s → k ≤ u.h → Like k p → Served Reached a k (min u.h (k + n)) p (u.answer (u.own a n) s p)
+    pub backs : u.typed → (k : ℕ) (s : S) → Reached k s → k ≤ u.h → u.back s ≡ s
 
   module _ (law : Lawful) where
     -- the invariant: k rows are done, l is what finished samples hold
@@ -124,6 +125,7 @@ module _ {S C A : Type 0} (u : Opened S C A) where
     inv (H ▷ refused c) v = let r = law.refuses c (run u H).state (run u H).plane v.1 in same _ _ (run u H) _ _ (inv H v.0) r.state r.plane
     inv (H ▷ refused_on c q) v = let r = law.refuses c (run u H).state q v.1 in same _ _ (run u H) _ _ (inv H v.0) r.state refl
     inv (H ▷ write y x b) v = written y x b _ _ _ (inv H v.0) v.1 v.2
+    inv (H ▷ put_away) v = let i = inv H v.0 in same _ _ (run u H) _ _ i (law.backs v.1 _ (run u H).state i.reached i.low) refl
 
     -- THE THEOREM: after every history, of any length
     pub holds : (H : History C A) → Valid u H → After u H

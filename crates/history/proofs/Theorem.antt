@@ -2,7 +2,9 @@
 use mathlib.Core.Path.{◌≡◌, refl, sym, ◌∙◌}
 use mathlib.Core.Bool.{true}
 use mathlib.Core.List.{List}
-use Prim.Native.Nat.{ℕ, ◌+◌, ◌*◌, ◌≤◌, ◌<◌}
+use Prim.Native.Nat.{ℕ, zero, suc, ◌+◌, ◌*◌, ◌≤◌, ◌<◌}
+use native.Mathlib.Numerals.{add-one}
+use native.Mathlib.Omega.{arith}
 use lib.ListN.{length, get_or}
 use lib.Dec.{eqb}
 use lib.Seq.{sets}
@@ -13,8 +15,9 @@ use Rattle.history.proofs.Memory.{Memory, RowWise, Reached, kept_at, one}
 use Rattle.history.specs.Advance.{Advancing}
 use Rattle.history.proofs.Fits.{Frame, unit_of, Fits, any_history}
 
+-- `Tidy` is what a state has to be for its text to say all of it.
 module _ {S C A M U : Type 0} (o : Advancing S C) (f : Frame S C A) (mem : Memory M U f.h (λ k. f.off + k * f.stride) f.plane)
-    (cell : A → ℕ → U → ℕ → ℕ → ℕ) (there : ℕ → M → S) where
+    (cell : A → ℕ → U → ℕ → ℕ → ℕ) (there : ℕ → M → S) (Tidy : S → Type 0) where
   pub record Shown : Type 0 where
     -- the rectangle lies in the plane, and its rows apart
     pub apart : f.w ≤ f.stride
@@ -38,10 +41,28 @@ module _ {S C A M U : Type 0} (o : Advancing S C) (f : Frame S C A) (mem : Memor
           state = there (k + 1) (mem.slide (mem.take k p m));
           plane = sets p (f.off + k * f.stride) (tab f.w (λ x. cell a k (mem.seen k (mem.take k p m)) (get_or p (f.off + k * f.stride + x) 0) x));
         }
+    -- the state at the opening is tidy and stays so, and a tidy state is taken back as it was put away
+    pub any : A
+    pub tidy_first : f.typed → Tidy f.first
+    pub tidy_step : f.typed → (a : A) (n : ℕ) (s : S) → Tidy s → Tidy (o.step (f.own a n) (record { state = s; plane = f.plane })).state
+    pub backs : f.typed → (k : ℕ) (m : M) → mem.At k m → k ≤ f.h → Tidy (there k m) → f.back (there k m) ≡ there k m
 
   module _ (d : Shown) where
     row_wise : (a : A) (n : ℕ) → RowWise (unit_of o f) a f.off f.stride mem (cell a) there d.first (o.step (f.own a n))
     row_wise a n = record { at = λ y x. refl; apart = d.apart; room = d.room; final = d.final a; steps = d.steps a n }
+
+    -- what is kept with k rows done
+    abbrev kept : ℕ → M
+    kept = kept_at mem d.first
+
+    kept-holds : (k : ℕ) → k ≤ f.h → mem.At k (kept k)
+    kept-holds zero h = d.holds
+    kept-holds (suc k) h = rw (add-one k) at (mem.goes k f.plane (kept k) h (λ i _. refl) (kept-holds k (omega arith)))
+
+    kept_tidy : f.typed → (k : ℕ) → k ≤ f.h → Tidy (there k (kept k))
+    kept_tidy t zero h = rw d.opens at (d.tidy_first t)
+    kept_tidy t (suc k) h =
+        rw (d.steps d.any 0 k (kept k) f.plane h (kept-holds k (omega arith)), add-one k) at (d.tidy_step t d.any 0 (there k (kept k)) (kept_tidy t k (omega arith)))
 
     fits : Fits o f (Reached mem there d.first)
     fits =
@@ -57,6 +78,7 @@ module _ {S C A M U : Type 0} (o : Advancing S C) (f : Frame S C A) (mem : Memor
           admits = λ a n k s p ok r hk l. rw r.exact (d.admits a n k (kept_at mem d.first k) p ok r.holds hk l);
           pieces = λ a n k j s r. rw r.exact (d.pieces a n k j (kept_at mem d.first k));
           one = λ a n. one (unit_of o f) a f.off f.stride mem (cell a) there d.first (o.step (f.own a n)) (row_wise a n);
+          backs = λ t k s r h. rw r.exact (d.backs t k (kept k) r.holds h (kept_tidy t k h));
         }
 
     -- DEMAND 3

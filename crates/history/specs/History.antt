@@ -13,10 +13,13 @@ pub record Out (S : Type 0) : Type 0 where
 -- S are the states. C are the calls: an operation, a row count and all that is lent besides the plane.
 -- A is what may change from one advance to the next, as a list of classes that is lent: `own a n` is the unit's own advance by n rows, lent a and all else
 -- as at the opening, and is never declined where `ok a`. Where nothing may change A is `Unit`.
-pub record Opened (S C A : Type 0) : Type 0 where
+-- `back s` is what is taken back where the state s was put away, and `typed` that what the unit was opened with are numbers and bytes of the code's types.
+pub record Opened (S C A : Type 0) : Type 1 where
   pub answer : C → S → List ℕ → Out S
   pub own : A → ℕ → C
   pub ok : A → Bool
+  pub back : S → S
+  pub typed : Type 0
   pub rows : S → ℕ
   pub complete : S → Bool
   pub w : ℕ
@@ -32,6 +35,7 @@ pub data Event (C A : Type 0) : Type 0 where
   refused : C → Event C A
   refused_on : C → List ℕ → Event C A
   write : ℕ → ℕ → ℕ → Event C A
+  put_away : Event C A
 
 infixl 20 ◌▷◌
 pub data History (C A : Type 0) : Type 0 where
@@ -51,6 +55,7 @@ module _ {S C A : Type 0} (u : Opened S C A) where
   act (refused c) x = after (u.answer c x.state x.plane)
   act (refused_on c q) x = record { state = (u.answer c x.state q).state; plane = x.plane }
   act (write y c v) x = record { state = x.state; plane = set x.plane (u.at y c) v }
+  act put_away x = record { state = u.back x.state; plane = x.plane }
 
   abbrev pub run : History C A → World S
   run opened = record { state = u.first; plane = u.plane }
@@ -63,6 +68,7 @@ module _ {S C A : Type 0} (u : Opened S C A) where
   sum (H ▷ refused c) = sum H
   sum (H ▷ refused_on c q) = sum H
   sum (H ▷ write y c v) = sum H
+  sum (H ▷ put_away) = sum H
 
   abbrev pub finished : History C A → ℕ
   finished H = min u.h (sum H)
@@ -74,6 +80,7 @@ module _ {S C A : Type 0} (u : Opened S C A) where
   last (H ▷ refused c) y x = last H y x
   last (H ▷ refused_on c q) y x = last H y x
   last (H ▷ write y' x' v) y x = cond (eqb y y' && eqb x x') v (last H y x)
+  last (H ▷ put_away) y x = last H y x
 
   abbrev pub Valid : History C A → Type 0
   Valid opened = Unit {0}
@@ -81,6 +88,7 @@ module _ {S C A : Type 0} (u : Opened S C A) where
   Valid (H ▷ refused c) = Valid H × ((u.answer c (run H).state (run H).plane).status ≢ 0)
   Valid (H ▷ refused_on c q) = Valid H × ((u.answer c (run H).state q).status ≢ 0)
   Valid (H ▷ write y x v) = Valid H × (y < finished H) × (x < u.w)
+  Valid (H ▷ put_away) = Valid H × u.typed
 
   -- i is no sample of rows k up to k'
   abbrev pub Off : ℕ → ℕ → ℕ → Type 0

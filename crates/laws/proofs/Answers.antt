@@ -2,7 +2,7 @@
 use Rattle.std.specs.Prelude.{◌≡◌, refl, Result, Ok, Err, IsOk}
 use Rattle.std.proofs.Common.{arith}
 use Rattle.definition.specs.declared.Refusal.{Refusal}
-use Rattle.definition.specs.declared.Refusal.TheVariants.{Width, Height, Stride, Sampling, Outside, Left, Top, Bottom, Masks, Filters, Luma, Block, State, Card, Plane, Scratch}
+use Rattle.definition.specs.declared.Refusal.TheVariants.{Width, Height, Stride, Sampling, Outside, Left, Top, Bottom, Masks, Filters, Luma, Block, State, Card, Plane, Scratch, Text}
 use Rattle.definition.specs.Answers.{number, status_from}
 
 pub number_some : (r : Refusal) → number r ≡ 0 → ⊥
@@ -22,6 +22,7 @@ number_some State e = omega (arith, e)
 number_some Card e = omega (arith, e)
 number_some Plane e = omega (arith, e)
 number_some Scratch e = omega (arith, e)
+number_some Text e = omega (arith, e)
 
 pub served : {A : Type 0} (r : Result A Refusal) → status_from r ≡ 0 → IsOk r
 served (Ok v) e = refl

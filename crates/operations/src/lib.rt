@@ -2,7 +2,7 @@
 #![tactic(auto)]
 
 ghost use Rattle.std.specs.Prelude.{◌≡◌, ◌^◌, ◌≤◌, ◌<◌, min};
-ghost use Rattle.definition.specs.Units.{border, number_of, classed, chromatic, set_size};
+ghost use Rattle.definition.specs.Units.{border, number_of, operation_of, classed, chromatic, set_size};
 ghost use Rattle.definition.specs.Refusals.{top_rows};
 
 use bounds::is_set;
@@ -23,6 +23,19 @@ pub fn number_of(op: Operation) -> usize
     ensures { result ≡ number_of op }
 {
     op as usize
+}
+
+// The operation that has a number. The four arms are the enum's numbers.
+pub fn operation_of(number: usize) -> Option<Operation>
+    ensures { result ≡ operation_of number }
+{
+    match number {
+        1 => Some(Operation::Luma),
+        2 => Some(Operation::User),
+        3 => Some(Operation::Pretrained),
+        4 => Some(Operation::Chroma),
+        _ => None,
+    }
 }
 
 // Whether it has classes.

@@ -1,12 +1,13 @@
 -- The starred samples of docs/SCOPE.md, 'Samples': what the definition gives beside what is said there, one table under one proof that antt computes.
 use Rattle.std.specs.Prelude.{Bool, true, false, cond, ◌&&◌, List, [], ◌∷◌, ◌≡◌, refl, ℕ, zero, suc, ◌+◌, ◌*◌, ◌%◌, eqb, ℤ, pos, negsuc, nat_abs, ◌+ℤ◌, get_or, replicate}
+use Rattle.std.specs.Fmt.{digits}
 use Rattle.definition.specs.Numbers.{sum_z, sum_n}
 use Rattle.definition.specs.Sample.{limit8, rounded, luma_sum, luma_sample, pretrained_sample}
 use Rattle.definition.specs.ClassIndex.{term, bin, feature, skip_sum, bins_of, index_of, class_bins, class_index}
 use Rattle.definition.specs.Padding.{mixed}
 use Rattle.definition.specs.Blocks.{clear_below, pieces_of}
 use Rattle.definition.specs.Units.{sample_at, class_of, final_sample}
-use Rattle.definition.specs.Card.{ascii, several, word_at, decimal_of, decimal_at, tap_at, pair_at, group_at, size_at, filter_at, skip_at, row_at, rows_at, lists_at, unit_at, meaning, restored_plane, filtered, decimal_text, row_text, rows_text, line_text, printed, card_answer}
+use Rattle.definition.specs.Card.{ascii, several, word_at, decimal_of, decimal_at, tap_at, pair_at, group_at, size_at, filter_at, skip_at, row_at, rows_at, lists_at, unit_at, meaning, restored_plane, filtered, row_text, rows_text, line_text, printed, card_answer}
 
 -- what was worked out, and what the scope says
 infix 20 ◌is◌
@@ -103,5 +104,5 @@ table =
     []
 
 starred : agree table ≡ true
-unfolding agree same table several word_at decimal_of decimal_at tap_at pair_at group_at size_at filter_at skip_at row_at rows_at lists_at unit_at meaning restored_plane filtered decimal_text row_text rows_text line_text printed card_answer clear_below pieces_of sample_at class_of final_sample window below dark flat zeros first centre_only ones none sum_z sum_n rounded term bin feature skip_sum bins_of index_of parts
+unfolding digits agree same table several word_at decimal_of decimal_at tap_at pair_at group_at size_at filter_at skip_at row_at rows_at lists_at unit_at meaning restored_plane filtered row_text rows_text line_text printed card_answer clear_below pieces_of sample_at class_of final_sample window below dark flat zeros first centre_only ones none sum_z sum_n rounded term bin feature skip_sum bins_of index_of parts
 starred = refl

@@ -30,6 +30,8 @@ use Rattle.laws.proofs.Agree.{chroma_agree}
 use Rattle.model.proofs.Views.{view_around, flat_view, pad_view, place_high, place_split}
 use Rattle.units.specs.declared.State.{State}
 use Rattle.units.specs.Openings.{open_state}
+use Rattle.units.proofs.Tidy.{Tidy, tidy_open, tidy_step}
+use Rattle.units.proofs.RoundTrip.{comes-back}
 use Rattle.units.proofs.Frames.{frame_of}
 use Rattle.units.specs.Histories.{Histories}
 use Rattle.model.proofs.Cells.{cell_of, chroma_unmasked}
@@ -232,7 +234,7 @@ module _ (n : Given) (l : Lent) (p₀ : List ℕ) (f : open_status Chroma n l p�
   open_sizes =
       (filled-size row_bytes (first_row Chroma G) (pad_row Chroma G l p₀) (replicate luma_rows_at 0) (pad_size Chroma G l p₀) 4 ∙ length-replicate {A = ℕ} luma_rows_at 0, refl)
 
-  pub shown : Shown units (frame_of Chroma n l p₀) mem (λ a. chroma_seen limit8 l (step G l)) there
+  pub shown : Shown units (frame_of Chroma n l p₀) mem (λ a. chroma_seen limit8 l (step G l)) there (Tidy Chroma)
   unfolding open_state state_of plane_of
   shown =
       record {
@@ -245,6 +247,10 @@ module _ (n : Given) (l : Lent) (p₀ : List ℕ) (f : open_status Chroma n l p�
         height = λ k m. refl;
         complete = λ k m. refl;
         count = λ a c. refl;
+        any = tt;
+        tidy_first = tidy_open Chroma n l p₀;
+        tidy_step = λ t a c s y. tidy_step Chroma l n s p₀ t y;
+        backs = λ t k m at h y. comes-back Chroma (there k m) l p₀ refl h t y;
         admits = λ a c k m p ok at h like. admits c k m p at h like.size;
         pieces = λ a c k j m. refl;
         final = λ a y x hy hx. final-seen y x hx;
@@ -279,4 +285,4 @@ module _ (n : Given) (l : Lent) (p₀ : List ℕ) (f : open_status Chroma n l p�
   -- DEMAND 3
   pub chroma_history : Histories Chroma n l p₀
   unfolding answer
-  chroma_history = theorem units (frame_of Chroma n l p₀) mem (λ a. chroma_seen limit8 l (step G l)) there shown
+  chroma_history = theorem units (frame_of Chroma n l p₀) mem (λ a. chroma_seen limit8 l (step G l)) there (Tidy Chroma) shown

@@ -34,6 +34,8 @@ use Rattle.definition.specs.Refusals.{rows_size, sizes_of, every, bad_kept, inde
 use Rattle.laws.proofs.Passes.{both, pass_all, not_both}
 use Rattle.model.proofs.Fine.{Fine, fine, row_room}
 use Rattle.model.proofs.Opening.{open_ring, opens, filled, filled-size, open_index, open_rings, open_ten}
+use Rattle.units.proofs.Tidy.{Tidy, tidy_open, tidy_step}
+use Rattle.units.proofs.RoundTrip.{comes-back}
 use Rattle.units.proofs.Frames.{frame_of}
 use Rattle.units.specs.Histories.{Histories}
 use Rattle.definition.specs.Sample.{limit8, luma_sample, pretrained_sample}
@@ -448,7 +450,7 @@ module _ (op : Operation) (four : border op ≡ 4) (ten₀ : (n : Given) (l : Le
               | no ge ↦ let le : length zs ≤ j = rw size (omega arith) in get_or-eq_default zs 0 le
             ]
 
-    pub shown : Shown units (frame_of op n l p₀) mem (λ a. classed_seen l) there
+    pub shown : Shown units (frame_of op n l p₀) mem (λ a. classed_seen l) there (Tidy op)
     unfolding open_state
     shown =
         record {
@@ -468,6 +470,10 @@ module _ (op : Operation) (four : border op ≡ 4) (ten₀ : (n : Given) (l : Le
           height = λ k m. refl;
           complete = λ k m. rw numbered;
           count = λ a c. refl;
+          any = tt;
+          tidy_first = tidy_open op n l p₀;
+          tidy_step = λ t a c s y. tidy_step op l n s p₀ t y;
+          backs = λ t k m at h y. comes-back op (there k m) l p₀ refl h t y;
           admits = λ a c k m p ok at h like. admits c k m p at h like.size;
           pieces = λ a c k j m. refl;
           final = λ a y x hy hx. final-seen y x hx;
@@ -494,7 +500,7 @@ module _ (op : Operation) (four : border op ≡ 4) (ten₀ : (n : Given) (l : Le
     -- DEMAND 3
     pub classed-history : Histories op n l p₀
     unfolding answer
-    classed-history = theorem units (frame_of op n l p₀) mem (λ a. classed_seen l) there shown
+    classed-history = theorem units (frame_of op n l p₀) mem (λ a. classed_seen l) there (Tidy op) shown
 
 -- THE TWO OPERATIONS
 pub user_history : (n : Given) (l : Lent) (p₀ : List ℕ) → open_status User n l p₀ ≡ 0 → Histories User n l p₀

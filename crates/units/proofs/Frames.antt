@@ -9,13 +9,17 @@ use Rattle.definition.specs.Units.{Lent, final_sample}
 use Rattle.definition.specs.Calls.{Call, call_of}
 use Rattle.history.proofs.Fits.{Frame}
 use Rattle.units.specs.declared.State.{State}
+use Rattle.definition.specs.StateText.{Typed}
 use Rattle.units.specs.Openings.{open_state}
+use Rattle.units.specs.Texts.{back}
 
 abbrev pub frame_of : Operation → Given → Lent → List ℕ → Frame State Call (Unit {0})
 frame_of op n l p =
     record {
       own = λ a c. call_of op c l;
       ok = λ a. true;
+      back = back;
+      typed = Typed n l p;
       w = n.w;
       h = n.h;
       off = n.off;

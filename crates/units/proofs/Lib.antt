@@ -1,3 +1,6 @@
+pub mod KeptRows
+pub mod Putting
+pub mod Reading
 pub mod Edges
 pub mod Sources
 pub mod Firsts
@@ -14,6 +17,8 @@ pub mod TwoLists
 pub mod LumaSources
 pub mod Fits
 pub mod OneRow
+pub mod Tidy
+pub mod RoundTrip
 pub mod ChromaOpening
 pub mod Frames
 pub mod LumaHistory

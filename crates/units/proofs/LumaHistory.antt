@@ -27,6 +27,8 @@ use Rattle.laws.proofs.Agree.{luma-agree}
 use Rattle.model.proofs.Views.{view_around, flat_view, pad_view, place_high}
 use Rattle.units.specs.declared.State.{State}
 use Rattle.units.specs.Openings.{open_state}
+use Rattle.units.proofs.Tidy.{Tidy, tidy_open, tidy_step}
+use Rattle.units.proofs.RoundTrip.{comes-back}
 use Rattle.units.proofs.Frames.{frame_of}
 use Rattle.units.specs.Histories.{Histories}
 use Rattle.model.proofs.Cells.{cell_of, luma_unmasked}
@@ -90,7 +92,7 @@ module _ (n : Given) (l : Lent) (p₀ : List ℕ) (f : open_status Luma n l p₀
       (pad_view Luma n l p₀ good.wide.high (omega arith) y x h)
       (λ k m. let z : k ≡ 16 * 0 + k = omega arith in ap (λ (i : ℕ). get_or l.filters i (pos 0)) z)))
 
-  pub luma_shown : Shown units (frame_of Luma n l p₀) rows (λ a. luma_seen limit8 l) there
+  pub luma_shown : Shown units (frame_of Luma n l p₀) rows (λ a. luma_seen limit8 l) there (Tidy Luma)
   unfolding open_state open_ring state_of plane_of
   luma_shown =
       record {
@@ -105,6 +107,10 @@ module _ (n : Given) (l : Lent) (p₀ : List ℕ) (f : open_status Luma n l p₀
         height = λ k m. refl;
         complete = λ k m. refl;
         count = λ a c. refl;
+        any = tt;
+        tidy_first = tidy_open Luma n l p₀;
+        tidy_step = λ t a c s y. tidy_step Luma l n s p₀ t y;
+        backs = λ t k m at h y. comes-back Luma (there k m) l p₀ refl h t y;
         admits = λ a c k m p ok at h like. admits c k m p at h like.size;
         pieces = λ a c k j m. refl;
         final = λ a y x hy hx. final-seen y x hx;
@@ -123,4 +129,4 @@ module _ (n : Given) (l : Lent) (p₀ : List ℕ) (f : open_status Luma n l p₀
   -- DEMAND 3
   pub luma-history : Histories Luma n l p₀
   unfolding answer
-  luma-history = theorem units (frame_of Luma n l p₀) rows (λ a. luma_seen limit8 l) there luma_shown
+  luma-history = theorem units (frame_of Luma n l p₀) rows (λ a. luma_seen limit8 l) there (Tidy Luma) luma_shown

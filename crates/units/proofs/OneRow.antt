@@ -75,7 +75,7 @@ module _ (g : Given) (l : Lent) (p : List ℕ) (done : ℕ) where
         count = behind-count o row (ring r.slots r.idx slot) ∙ s.count;
       }
 
-  taken-ringed : (op : Operation) {old : Ring} → Ringed op old → Ringed op (taken op g l p done old)
+  pub taken-ringed : (op : Operation) {old : Ring} → Ringed op old → Ringed op (taken op g l p done old)
   taken-ringed Luma s = newest-ringed Luma s
   taken-ringed User {old} s = tenth-ringed User (omega arith) (begins done) (pad_row User g l p (done + 9)) (newest User g l p done old) (newest-ringed User s)
   taken-ringed Pretrained {old} s =
@@ -113,10 +113,9 @@ taken-sound op g l p done plane {classes} {cs} {old} {new} f s t =
     let k = chosen-kept g l done plane op f classes new (s.kept, s.sixteen) in
     record { ringed = rw t.rows (taken-ringed g l p done op s.ringed); kept = rw t.chosen k.0; sixteen = rw t.chosen k.1 }
 
-pub slid-sound : (op : Operation) (n : ℕ) {classes rows idx : List ℕ} {next : ℕ} → Sound op n classes (ring rows idx next) → Sound op n classes (ring rows (slid_by op idx) next)
-slid-sound op n {idx = idx} s =
-    let r = s.ringed in
-    record { ringed = record { low = lows op r.low; next = r.next; long = r.long; count = counts op ∙ r.count }; kept = s.kept; sixteen = s.sixteen }
+-- windows that are moved on keep the limits and sizes, and so all that is kept
+pub slid-ringed : (op : Operation) {rows idx : List ℕ} {next : ℕ} → Ringed op (ring rows idx next) → Ringed op (ring rows (slid_by op idx) next)
+slid-ringed op {idx = idx} r = record { low = lows op r.low; next = r.next; long = r.long; count = counts op ∙ r.count }
   where
     lows : (o : Operation) → ((j : ℕ) → get_or idx j 0 ≤ index_limit o) → (j : ℕ) → get_or (slid_by o idx) j 0 ≤ index_limit o
     lows Luma h = slid-low 8 9 idx h
@@ -129,6 +128,9 @@ slid-sound op n {idx = idx} s =
     counts User = slid_length 8 idx
     counts Pretrained = slid_length 8 idx
     counts Chroma = slid-count idx
+
+pub slid-sound : (op : Operation) (n : ℕ) {classes rows idx : List ℕ} {next : ℕ} → Sound op n classes (ring rows idx next) → Sound op n classes (ring rows (slid_by op idx) next)
+slid-sound op n s = record { ringed = slid-ringed op s.ringed; kept = s.kept; sixteen = s.sixteen }
 
 -- .. so a row can be restored from it
 pub restorable : (op : Operation) (l : Lent) (s m : State) (plane : ℕ) → Stays s m → s.done < s.given.h → Fit op s.given l plane → Sound op (length l.filters) m.classes (ring_of m) → Restorable op m l plane

@@ -7,8 +7,10 @@ use Rattle.definition.specs.Units.{Lent, final_sample}
 use Rattle.definition.specs.Calls.{Call, call_of}
 use Rattle.history.specs.History.{Opened, History, Valid, After}
 use Rattle.units.specs.declared.State.{State}
+use Rattle.definition.specs.StateText.{Typed}
 use Rattle.units.specs.Openings.{open_state}
 use Rattle.units.specs.Advances.{is_finished, answer}
+use Rattle.units.specs.Texts.{back}
 
 -- the unit that was opened over the plane p; from one advance to the next nothing changes of what is lent
 abbrev pub unit : Operation → Given → Lent → List ℕ → Opened State Call (Unit {0})
@@ -17,6 +19,8 @@ unit op n l p =
       answer = answer;
       own = λ a count. call_of op count l;
       ok = λ a. true;
+      back = back;
+      typed = Typed n l p;
       rows = λ s. s.done;
       complete = is_finished;
       w = n.w;

@@ -13,6 +13,7 @@ mod masks;
 mod opening;
 mod restore;
 mod rows;
+mod state_text;
 mod unit;
 
 use definition::{BLOCK_COLUMN_LIMIT, Given, INDEX_COUNT, Refusal, STATE_BYTES};
@@ -32,7 +33,7 @@ pub struct State {
     pub rows: [u8; STATE_BYTES],
 }
 
-// What an opening hands C: the state, of zeros where the call is refused, and the status.
+// What an opening or the reading of a text hands C: the state, of zeros where the call is refused, and the status.
 #[repr(C)]
 #[derive(Clone, Copy)]
 pub struct Opened {
@@ -61,6 +62,14 @@ pub struct Advanced {
     pub status: u8,
     pub pieces: usize,
     pub state: State,
+}
+
+// What a writing hands C: the length of the text, 0 where the call is refused.
+#[repr(C)]
+#[derive(Clone, Copy)]
+pub struct Written {
+    pub status: u8,
+    pub len: usize,
 }
 
 impl State {

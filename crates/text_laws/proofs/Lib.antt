@@ -1,0 +1,11 @@
+pub mod Found
+pub mod Digits
+pub mod Standing
+pub mod Bytes
+pub mod Decimals
+pub mod Several
+pub mod Rows
+pub mod Lines
+pub mod Operations
+pub mod States
+pub mod Examples
