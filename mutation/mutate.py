@@ -182,10 +182,10 @@ def program_sites(file, text):
 
 # ---- the definition
 
-ABOVE = ('samples laws tables model vectors intops bounds operations blocks history card_laws plane_laws card_reader features padding qval class_index filter refusals units'
-         ' whole plane claims card_answer paused gihvendu skip_sums').split()
+ABOVE = ('samples laws tables model vectors intops bounds operations blocks history card_laws text_laws plane_laws text card_reader features padding qval class_index filter refusals units'
+         ' whole plane claims card_answer paused gihvendu skip_sums state_texts').split()
 # the crates that lean on a file most, a lower one first: they are tried first, behind `samples`
-NEAREST = {'Card': 'card_reader card_answer', 'Refusals': 'model operations refusals', 'ClassIndex': 'qval class_index features model', 'Sample': 'model vectors filter',
+NEAREST = {'Card': 'card_reader card_answer', 'StateText': 'text_laws text card_reader units', 'Refusals': 'model operations refusals', 'ClassIndex': 'qval class_index features model', 'Sample': 'model vectors filter',
            'Padding': 'model operations padding', 'Blocks': 'blocks vectors', 'Units': 'model vectors', 'Rows': 'blocks features padding', 'Numbers': 'intops qval',
            'Leaves': 'blocks qval features class_index padding filter', 'Calls': 'units card_answer', 'Limits': 'bounds refusals',
            'Answers': 'laws blocks qval refusals',

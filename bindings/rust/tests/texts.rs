@@ -50,7 +50,7 @@ fn row_lengths(operation: Operation) -> [usize; 10] {
     [76, 76, 76, 76, 76, luma, luma, luma, luma, luma]
 }
 
-/// The text of that state, written by hand but for the rows.
+/// The text of that state, put together after the scope: a second writing of it.
 fn text(operation: Operation) -> String {
     let (op, slots) = match operation {
         Operation::Luma => ("y", "indices=0,1,2,3,4,5,6,7,8,9\nnext=8\n"),

@@ -1,21 +1,20 @@
 -- The rows of a text, one more at a time, and how long an answer is at most.
 use mathlib.Core.Path.{◌≡◌, ◌∙◌}
 use mathlib.Core.Bool.{true}
-use mathlib.Core.List.{List, [], ◌∷◌, ◌++◌}
+use mathlib.Core.List.{List, ◌++◌}
 use Prim.Native.Nat.{ℕ, zero, suc, ◌+◌, ◌*◌, ◌/◌, ◌^◌, ◌≤◌, ◌<◌}
 use native.Mathlib.Numerals.{add-one}
 use native.Mathlib.Omega.{arith}
 use lib.IntN.{ℤ}
 use lib.ListN.{length, take, drop, length-append, length-take}
 use lib.Seq.{take_all}
-use Rattle.std.specs.Fmt.{decimal}
 use Rattle.definition.specs.Blocks.{side, mask_at, pieces_of}
-use Rattle.definition.specs.Card.{newline, row_text, rows_text, line_text, head_text, status_name, filtered_name, row_line}
+use Rattle.definition.specs.Card.{row_text, rows_text, line_text, head_text, status_name, filtered_name, row_line}
 use Rattle.definition.specs.Refusals.{sized}
 use Rattle.definition.specs.Limits.{width_limit, height_limit, block_column_limit}
 use Rattle.laws.proofs.Inside.{is-sized}
 use Rattle.text.proofs.Cuts.{cut_both}
-use Rattle.text_laws.proofs.Decimals.{number-short}
+use Rattle.text_laws.proofs.Lines.{digits-short}
 use Rattle.text_laws.proofs.Rows.{row-long}
 use Rattle.units.proofs.Pieces.{clear-low}
 use Rattle.card_answer.specs.Answers.{text_size}
@@ -33,18 +32,14 @@ pub unit_put : (w h : ℕ) (filter : List ℤ) (skip plane q : List ℕ) (n : �
 unfolding unit_text
 unit_put w h filter skip plane q n o l m a b d e = rw (e, d, a, b) (cut_both text_size o (head_text 0 (pieces_of skip (w / side) 0 h)) (rows_text w (plane_of w h filter skip plane) h))
 
--- HOW LONG AN ANSWER IS at most; n has k digits
-line-short : (name : List ℕ) (k n : ℕ) → 0 < k → n < 10 ^ k → n < 2 ^ 64 → length (line_text name n) ≤ length name + (k + 1)
-unfolding line_text
-line-short name k n h l m = omega (arith, length-append name (decimal n ++ (newline ∷ [])), number-short k newline n h l m)
-
+-- HOW LONG AN ANSWER IS at most
 pub declined-short : (status : ℕ) → status < 256 → length (head_text status 0) ≤ text_size
 declined-short status h =
     omega (
       arith,
       length-append (line_text status_name status) (line_text filtered_name 0),
-      line-short status_name 3 status (omega arith) (omega arith) (omega arith),
-      line-short filtered_name 1 0 (omega arith) (omega arith) (omega arith),
+      digits-short status_name 3 status (omega arith) (omega arith) (omega arith),
+      digits-short filtered_name 1 0 (omega arith) (omega arith) (omega arith),
     )
 
 pieces-few : (skip : List ℕ) (bw k n : ℕ) → bw ≤ block_column_limit → pieces_of skip bw k n ≤ block_column_limit * n
@@ -71,8 +66,8 @@ unit-short w h filter skip plane ow oh =
       arith,
       length-append (head_text 0 pieces) (rows_text w q h),
       length-append (line_text status_name 0) (line_text filtered_name pieces),
-      line-short status_name 1 0 (omega arith) (omega arith) (omega arith),
-      line-short filtered_name 4 pieces (omega arith) few (omega arith),
+      digits-short status_name 1 0 (omega arith) (omega arith) (omega arith),
+      digits-short filtered_name 4 pieces (omega arith) few (omega arith),
       rows-short w q h lw,
     )
 

@@ -4,8 +4,8 @@ use mathlib.Core.List.{List, [], ◌∷◌, ◌++◌, append_assoc, append-nil}
 use Prim.Native.Nat.{ℕ, zero, suc, ◌+◌, ◌-◌, ◌*◌, ◌≤◌, ◌<◌}
 use native.Mathlib.Nat.{sub-zero, zero-sub, suc-sub-suc, add-mul, one-mul, mul_comm, mul-le-mul, le_refl}
 use native.Mathlib.Omega.{arith}
-use lib.ListN.{length, take, drop, replicate, length-drop, length-append}
-use lib.Seq.{length-take-le, take-append_seam, drop-append_seam}
+use lib.ListN.{length, take, drop, replicate, length-append}
+use lib.Seq.{take-append_seam, drop-append_seam}
 use Rattle.definition.specs.Card.{joined}
 
 -- row y lies in a plane of h rows
@@ -14,18 +14,6 @@ in_plane y w h len a b =
     let l : y + 1 ≤ h = omega arith in
     let k : (y + 1) * w ≤ h * w = mul-le-mul l (le_refl w) in
     omega (arith, k, mul_comm w h, add-mul y 1 w, one-mul w)
-
--- y rows lie in it
-pub rows_in_plane : (y w h len : ℕ) → y ≤ h → w * h ≤ len → y * w ≤ len
-rows_in_plane y w h len a b =
-    let k : y * w ≤ h * w = mul-le-mul a (le_refl w) in
-    omega (arith, k, mul_comm w h)
-
--- the part of a plane that is lent for row y is w long
-pub part-long : (y w : ℕ) (p : List ℕ) → y * w + w ≤ length p → length (take (y * w + w - y * w) (drop (y * w) p)) ≡ w
-part-long y w p h =
-    let k : y * w + w - y * w ≡ w = omega arith in
-    rw k (length-take-le w (drop (y * w) p) (omega (arith, length-drop (y * w) p)))
 
 -- one row more
 pub joined_more : (rows : List (List ℕ)) (row : List ℕ) → joined (rows ++ (row ∷ [])) ≡ joined rows ++ row

@@ -199,12 +199,21 @@ fn read_skip(s: &[u8], at: usize, skip: &mut [u16]) -> Option<usize>
 
 // A row's line: two hex digits for each sample.
 #[tactic(auto, unfolding(definition::specs::Card::row_at))]
-pub fn read_row(s: &[u8], at: usize, row: &mut [u8]) -> Option<usize>
+fn read_row_into(s: &[u8], at: usize, row: &mut [u8]) -> Option<usize>
     ensures { line_of result row.new ≡ row_at s.now (length row.old) at }
 {
     let p = read_word(s, at, b"row=")?;
     let end = read_several(p, row, |_, at| read_pair(s, at))?;
     read_byte(s, end, b'\n')
+}
+
+// .. of a row of known length.
+pub fn read_row<const N: usize>(s: &[u8], at: usize) -> Option<([u8; N], usize)>
+    ensures { reading_of result ≡ row_at s.now N at }
+{
+    let mut row = [0u8; N];
+    let next = read_row_into(s, at, &mut row)?;
+    Some((row, next))
 }
 
 // h rows of w samples, w apart. `chunks_mut` was tried and not proved: it promises nothing of what the list that it cuts is left with.
@@ -216,7 +225,7 @@ fn read_rows(s: &[u8], at: usize, w: usize, h: usize, p: &mut [u8]) -> Option<us
     for y in 0..h {
         let from = y * w;
         let to = from + w;
-        next = read_row(s, next, &mut p[from..to])?;
+        next = read_row_into(s, next, &mut p[from..to])?;
     }
     Some(next)
 }

@@ -55,7 +55,7 @@ pub fn read_line(s: &[u8], at: usize, name: &[u8]) -> Option<(usize, usize)>
 
 // A line of a name and as many numbers as the list is long.
 #[tactic(auto, unfolding(definition::specs::StateText::list_at, definition::specs::StateText::numbers_at))]
-pub fn read_list(s: &[u8], at: usize, name: &[u8], list: &mut [usize]) -> Option<usize>
+fn read_list_into(s: &[u8], at: usize, name: &[u8], list: &mut [usize]) -> Option<usize>
     ensures { line_of result list.new ≡ list_at name.now number_limit (length list.old) s.now at }
 {
     let p = read_word(s, at, name)?;
@@ -69,10 +69,27 @@ pub fn read_list(s: &[u8], at: usize, name: &[u8], list: &mut [usize]) -> Option
 
 // .. and of classes.
 #[tactic(auto, unfolding(definition::specs::StateText::list_at, definition::specs::StateText::numbers_at))]
-pub fn read_classes(s: &[u8], at: usize, name: &[u8], list: &mut [u8]) -> Option<usize>
+fn read_classes_into(s: &[u8], at: usize, name: &[u8], list: &mut [u8]) -> Option<usize>
     ensures { line_of result list.new ≡ list_at name.now byte_limit (length list.old) s.now at }
 {
     let p = read_word(s, at, name)?;
     let n = list.len();
     read_several(p, list, |k, at| read_class(s, at, end_of(n, k)))
+}
+
+// Both for callers outside, who have no list that a refused line leaves half filled.
+pub fn read_list<const N: usize>(s: &[u8], at: usize, name: &[u8]) -> Option<([usize; N], usize)>
+    ensures { reading_of result ≡ list_at name.now number_limit N s.now at }
+{
+    let mut list = [0usize; N];
+    let next = read_list_into(s, at, name, &mut list)?;
+    Some((list, next))
+}
+
+pub fn read_classes<const N: usize>(s: &[u8], at: usize, name: &[u8]) -> Option<([u8; N], usize)>
+    ensures { reading_of result ≡ list_at name.now byte_limit N s.now at }
+{
+    let mut list = [0u8; N];
+    let next = read_classes_into(s, at, name, &mut list)?;
+    Some((list, next))
 }

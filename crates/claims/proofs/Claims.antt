@@ -253,12 +253,13 @@ wrote r (Ok t) p q es el eq = go (ltb (length p) (length t)) refl es el eq
           stands = λ h. rw (el, eq) (ap Ok (sym (front t (drop (length t) p) (length t) refl)), l, behind t (drop (length t) p) (length t) refl);
         }
 
-read_state : (r : Opened) (t : List ℕ) → r ≡ opened_of (state_in t) → (r.status ≢ 0 → r.state ≡ no_state) × (r.status ≡ 0 → state_in t ≡ Ok r.state)
+read_state : (r : Opened) (t : List ℕ) → r ≡ opened_of (state_in t) →
+    (r.status ≡ status_from (state_in t)) × (r.status ≢ 0 → r.state ≡ no_state) × (r.status ≡ 0 → state_in t ≡ Ok r.state)
 read_state r t e = rw e (go (state_in t))
   where
-    go : (x : Result State Refusal) → ((opened_of x).status ≢ 0 → (opened_of x).state ≡ no_state) × ((opened_of x).status ≡ 0 → x ≡ Ok (opened_of x).state)
-    go (Ok s) = ((λ h. absurd (h refl)), (λ h. refl))
-    go (Err f) = ((λ h. refl), (λ h. absurd (number_some f h)))
+    go : (x : Result State Refusal) → ((opened_of x).status ≡ status_from x) × ((opened_of x).status ≢ 0 → (opened_of x).state ≡ no_state) × ((opened_of x).status ≡ 0 → x ≡ Ok (opened_of x).state)
+    go (Ok s) = (refl, (λ h. absurd (h refl)), (λ h. refl))
+    go (Err f) = (refl, (λ h. refl), (λ h. absurd (number_some f h)))
 
 -- a state of an operation that is taken back as it was put away comes back
 same_op : (c : Call) (s : State) (p : List ℕ) → (answer c s p).state.op ≡ s.op
@@ -300,7 +301,9 @@ demand_1 =
       planes = λ r w h u count filter skip s s' p q a. (a.status, plane-refused r w h u count filter skip s s' p q a);
       numbers = table_most;
       state_numbers = state_most;
-      writes = λ r s p q w. let x = wrote r (text_of s) p q w.status w.len w.out in (x.refused, x.stands);
+      writes = λ r s p q w.
+          let x = wrote r (text_of s) p q w.status w.len w.out in
+          (w.status, x.refused, λ h. let y = x.stands h in (y.0, y.1, y.2, w.in_fields h));
       reads = read_state;
       write_numbers = write_number;
       read_numbers = read_number;
@@ -326,8 +329,8 @@ pub texts : Texts
 unfolding open_state
 texts =
     record {
-      back = back-again;
-      again = text-again;
+      read_after_write = back-again;
+      write_after_read = text-again;
       short = text-short;
       handed_out = λ op n l p z t H v.
           let u = unit op n l p in

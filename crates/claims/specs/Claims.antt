@@ -3,8 +3,10 @@
 --   advance and advance_by, likewise       promise `Answered` by `answer`
 --   restore, which restores a whole unit   promises `Whole`
 --   restore_plane                          promises `PlaneRestored`
+--   write, of a state                      promises `WrittenState`
+--   read, of a state's text                promises `state_in`
 -- The functions of gihvendu promise what the functions promise that they call. That they take all lengths, offsets, flags and contents: none has a `requires`. That they
--- end: the checker refuses a loop or a recursion without a measure. The terms are demand_1, demand_2 and demand_3 in proofs/Claims.antt.
+-- end: the checker refuses a loop or a recursion without a measure. The terms are demand_1, demand_2, demand_3 and texts in proofs/Claims.antt.
 use Rattle.std.specs.Prelude.{◌≡◌, true, cond, ◌||◌, List, ◌≢◌, ℕ, ◌+◌, ◌-◌, ◌*◌, ◌/◌, ◌≤◌, ◌<◌, min, ltb, eqb, ℤ, length, get_or, take, drop, Ok}
 use Rattle.definition.specs.declared.Operation.{Operation}
 use Rattle.definition.specs.declared.Given.{Given}
@@ -12,7 +14,7 @@ use Rattle.definition.specs.Blocks.{side, mask_at, masked, pieces_of}
 use Rattle.definition.specs.Units.{Lent, final_sample}
 use Rattle.definition.specs.Planes.{sample_in, final_in, unit_count, unit_number, plane_restored}
 use Rattle.definition.specs.Answers.{status_from}
-use Rattle.definition.specs.StateText.{Typed, text_limit}
+use Rattle.definition.specs.StateText.{OpenedInFields, text_limit}
 use Rattle.definition.specs.Calls.{Call}
 use Rattle.history.specs.History.{History, Valid, run}
 use Rattle.definition.specs.Refusals.{open_status, plane_status}
@@ -23,7 +25,7 @@ use Rattle.units.specs.declared.Written.{Written}
 use Rattle.units.specs.Openings.{no_state, opened_of, Begun}
 use Rattle.units.specs.Advances.{status_of, answer, Answered}
 use Rattle.units.specs.Histories.{unit, Histories}
-use Rattle.units.specs.Texts.{InFields, text_of, fitting, cleared, state_in, WrittenState}
+use Rattle.units.specs.Texts.{StateInFields, text_of, fitting, cleared, state_in, WrittenState}
 use Rattle.whole.specs.declared.Restored.{Restored}
 use Rattle.whole.specs.Whole.{Final, Whole}
 use Rattle.plane.specs.Plane.{PlaneRestored}
@@ -72,9 +74,11 @@ pub record Demand1 : Type 0 where
       (r.status ≡ plane_status w h u (length p) (length skip) (length filter) (length s)) × (r.status ≢ 0 → (r.pieces ≡ 0) × (q ≡ p) × (s' ≡ s))
   -- a state put away: 13, then 5; the text of a state that is written stands at the front of the list, and what is behind it stays
   pub writes : (r : Written) (s : State) (p q : List ℕ) → WrittenState r s p q →
-      (r.status ≢ 0 → (r.len ≡ 0) × (q ≡ p)) × (r.status ≡ 0 → (text_of s ≡ Ok (take r.len q)) × (r.len ≤ length p) × (drop r.len q ≡ drop r.len p))
+      (r.status ≡ status_from (fitting (length p) (text_of s))) × (r.status ≢ 0 → (r.len ≡ 0) × (q ≡ p)) ×
+      (r.status ≡ 0 → (text_of s ≡ Ok (take r.len q)) × (r.len ≤ length p) × (drop r.len q ≡ drop r.len p) × StateInFields s)
   -- .. and taken back: 17, then 13; the state of zeros where refused
-  pub reads : (r : Opened) (t : List ℕ) → r ≡ opened_of (state_in t) → (r.status ≢ 0 → r.state ≡ no_state) × (r.status ≡ 0 → state_in t ≡ Ok r.state)
+  pub reads : (r : Opened) (t : List ℕ) → r ≡ opened_of (state_in t) →
+      (r.status ≡ status_from (state_in t)) × (r.status ≢ 0 → r.state ≡ no_state) × (r.status ≡ 0 → state_in t ≡ Ok r.state)
   -- no number but the table's: 1 to 11, and in an advance 13
   pub numbers : (op : Operation) (n : Given) (l : Lent) (p : List ℕ) → open_status op n l p ≤ 11
   pub state_numbers : (c : Call) (s : State) (p : List ℕ) → status_of c s p ≢ 13 → status_of c s p ≤ 11
@@ -93,13 +97,13 @@ pub record Demand2 : Type 0 where
 -- THE TEXT OF A STATE
 pub record Texts : Type 0 where
   -- read after write, of every state that is written: the state, but for what its text has no place for
-  pub back : (s : State) (t : List ℕ) → InFields s → text_of s ≡ Ok t → state_in t ≡ Ok (cleared s)
+  pub read_after_write : (s : State) (t : List ℕ) → StateInFields s → text_of s ≡ Ok t → state_in t ≡ Ok (cleared s)
   -- write after read, of every text that is read
-  pub again : (t : List ℕ) (s : State) → state_in t ≡ Ok s → text_of s ≡ Ok t
+  pub write_after_read : (t : List ℕ) (s : State) → state_in t ≡ Ok s → text_of s ≡ Ok t
   -- no text is longer than the limit
-  pub short : (s : State) (t : List ℕ) → InFields s → text_of s ≡ Ok t → length t ≤ text_limit
+  pub short : (s : State) (t : List ℕ) → StateInFields s → text_of s ≡ Ok t → length t ≤ text_limit
   -- and a unit that was opened: after any history its state comes back as it is
-  pub handed_out : (op : Operation) (n : Given) (l : Lent) (p : List ℕ) → open_status op n l p ≡ 0 → Typed n l p →
+  pub handed_out : (op : Operation) (n : Given) (l : Lent) (p : List ℕ) → open_status op n l p ≡ 0 → OpenedInFields n l p →
       (H : History Call (Unit {0})) → Valid (unit op n l p) H → ComesBack (run (unit op n l p) H).state
 
 -- DEMAND 3: a unit that was opened, and any history of it: advances, refused calls, finished samples written over, the unit put away and taken back.

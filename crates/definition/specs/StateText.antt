@@ -6,7 +6,7 @@ use Rattle.definition.specs.Rows.{row_bytes, luma_row_bytes, index_count, state_
 use Rattle.definition.specs.Limits.{block_column_limit}
 use Rattle.definition.specs.declared.Given.{Given}
 use Rattle.definition.specs.Units.{chromatic, Lent}
-use Rattle.definition.specs.Card.{Reading, value, wrong, reading, several, ended, input_at, ascii, newline, word_at, end_of, digit_of, w_name, h_name, row_at, row_text, line_text}
+use Rattle.definition.specs.Card.{Reading, value, wrong, reading, several, ended, input_at, ascii, newline, word_at, end_of, digit_of, w_name, h_name, row_name, row_at, row_text, line_text}
 
 -- the fields of numbers: 64 bits, and of a class or a sample 8
 abbrev pub number_limit : ℕ
@@ -184,32 +184,32 @@ unfoldable pub lines_in : List ℕ → Reading StateLines
 lines_in s = reading (lines_at s 0) (λ u p. cond (eqb p (length s)) (value u p) wrong)
 
 -- WHAT FITS: n numbers of at most a limit, and a state whose numbers are in their fields; in the code the types say so
-pub record Within (limit n : ℕ) (l : List ℕ) : Type 0 where
+pub record InField (limit n : ℕ) (l : List ℕ) : Type 0 where
   pub size : length l ≡ n
   pub each : (k : ℕ) → k < n → get_or l k 0 ≤ limit
 
-pub record Carried (u : StateLines) : Type 0 where
+pub record LinesInFields (u : StateLines) : Type 0 where
   pub w : u.w ≤ number_limit
   pub h : u.h ≤ number_limit
   pub edges : u.edges ≤ number_limit
   pub done : u.done ≤ number_limit
-  pub classes : Within byte_limit block_column_limit u.classes
-  pub indices : Within number_limit index_count u.indices
+  pub classes : InField byte_limit block_column_limit u.classes
+  pub indices : InField number_limit index_count u.indices
   pub next : u.next ≤ number_limit
   pub ten : length u.rows ≡ index_count
-  pub rows : (k : ℕ) → k < index_count → Within byte_limit (row_width u.op k) (get_or u.rows k [])
-  pub strides : Within number_limit 2 u.strides
-  pub offsets : Within number_limit 6 u.offsets
-  pub pair : Within number_limit 2 u.pair
+  pub rows : (k : ℕ) → k < index_count → InField byte_limit (row_width u.op k) (get_or u.rows k [])
+  pub strides : InField number_limit 2 u.strides
+  pub offsets : InField number_limit 6 u.offsets
+  pub pair : InField number_limit 2 u.pair
   pub kind : u.kind ≤ number_limit
 
 -- .. and what a unit is opened with and lent, likewise
 abbrev pub Bytes : List ℕ → Type 0
 Bytes l = (i : ℕ) → get_or l i 0 ≤ byte_limit
 
-pub record Typed (n : Given) (l : Lent) (p : List ℕ) : Type 0 where
+pub record OpenedInFields (n : Given) (l : Lent) (p : List ℕ) : Type 0 where
   pub numbers :
-      Within number_limit 14
+      InField number_limit 14
       (n.w ∷ n.h ∷ n.edges ∷ n.stride ∷ n.luma_stride ∷ n.off ∷ n.top_off ∷ n.bottom_off ∷ n.luma_off ∷ n.luma_top_off ∷ n.luma_bottom_off ∷ n.ss_hor ∷ n.ss_ver ∷ n.kind ∷ [])
   pub plane : Bytes p
   pub left : Bytes l.left
@@ -227,7 +227,11 @@ number_bytes = 21
 abbrev pub class_bytes : ℕ
 class_bytes = 4
 
+abbrev pub line_limit : List ℕ → ℕ
+line_limit name = length name + number_bytes
+
 abbrev pub text_limit : ℕ
 text_limit =
-    5 + (2 + number_bytes) + (2 + number_bytes) + (6 + number_bytes) + (5 + number_bytes) + (8 + block_column_limit * class_bytes) + (8 + index_count * number_bytes) +
-    (5 + number_bytes) + (index_count * 5 + 2 * state_bytes) + (8 + 2 * number_bytes) + (8 + 6 * number_bytes) + (5 + 2 * number_bytes) + (5 + number_bytes)
+    length op_name + 2 + line_limit w_name + line_limit h_name + line_limit edges_name + line_limit done_name + (length classes_name + block_column_limit * class_bytes) +
+    (length indices_name + index_count * number_bytes) + line_limit next_name + (index_count * (length row_name + 1) + 2 * state_bytes) + (length strides_name + 2 * number_bytes) +
+    (length offsets_name + 6 * number_bytes) + (length pair_name + 2 * number_bytes) + line_limit kind_name

@@ -167,5 +167,5 @@ pub const LUMA_ROWS_AT: usize = 5 * ROW_BYTES;
 
 pub const STATE_BYTES: usize = LUMA_ROWS_AT + 5 * LUMA_ROW_BYTES;
 
-// The bytes of the longest text of a state: of op, of the lines of numbers, of ten rows, and of the lines of numbers behind them.
+// So many bytes are enough for the text of any state (`text_limit` in specs/StateText.antt).
 pub const STATE_TEXT_LIMIT: usize = 2887;

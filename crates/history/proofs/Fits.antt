@@ -17,7 +17,7 @@ pub record Frame (S C A : Type 0) : Type 1 where
   pub own : A → ℕ → C
   pub ok : A → Bool
   pub back : S → S
-  pub typed : Type 0
+  pub in_fields : Type 0
   pub w : ℕ
   pub h : ℕ
   pub off : ℕ
@@ -34,7 +34,7 @@ unit_of o f =
       own = f.own;
       ok = f.ok;
       back = f.back;
-      typed = f.typed;
+      in_fields = f.in_fields;
       rows = o.rows;
       complete = o.complete;
       w = f.w;
@@ -59,7 +59,7 @@ module _ {S C A : Type 0} (o : Advancing S C) (f : Frame S C A) (Reached : ℕ �
     pub admits : (a : A) (n k : ℕ) (s : S) (p : List ℕ) → f.ok a ≡ true → Reached k s → k ≤ f.h → Like (unit_of o f) k p → o.status (f.own a n) s p ≡ 0
     pub pieces : (a : A) (n k m : ℕ) (s : S) → Reached k s → o.pieces (f.own a n) s m ≡ f.pieces a k m
     pub one : (a : A) (n : ℕ) → One (unit_of o f) a Reached (o.step (f.own a n))
-    pub backs : f.typed → (k : ℕ) (s : S) → Reached k s → k ≤ f.h → f.back s ≡ s
+    pub backs : f.in_fields → (k : ℕ) (s : S) → Reached k s → k ≤ f.h → f.back s ≡ s
 
   module _ (t : Fits) where
     declines : (c : C) (s : S) (p : List ℕ) → (advanced o c s p).status ≢ 0 → Refused (unit_of o f) s p (advanced o c s p)

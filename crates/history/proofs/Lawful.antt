@@ -54,7 +54,7 @@ module _ {S C A : Type 0} (u : Opened S C A) where
     pub only : (k : ℕ) (s t : S) → Reached k s → Reached k t → s ≡ t
     pub refuses : (c : C) (s : S) (p : List ℕ) → (u.answer c s p).status ≢ 0 → Refused s p (u.answer c s p)
     pub serves : (a : A) (n k : ℕ) (s : S) (p : List ℕ) → u.ok a ≡ true → Reached k s → k ≤ u.h → Like k p → Served Reached a k (min u.h (k + n)) p (u.answer (u.own a n) s p)
-    pub backs : u.typed → (k : ℕ) (s : S) → Reached k s → k ≤ u.h → u.back s ≡ s
+    pub backs : u.in_fields → (k : ℕ) (s : S) → Reached k s → k ≤ u.h → u.back s ≡ s
 
   module _ (law : Lawful) where
     -- the invariant: k rows are done, l is what finished samples hold

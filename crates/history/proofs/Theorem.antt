@@ -43,9 +43,9 @@ module _ {S C A M U : Type 0} (o : Advancing S C) (f : Frame S C A) (mem : Memor
         }
     -- the state at the opening is tidy and stays so, and a tidy state is taken back as it was put away
     pub any : A
-    pub tidy_first : f.typed → Tidy f.first
-    pub tidy_step : f.typed → (a : A) (n : ℕ) (s : S) → Tidy s → Tidy (o.step (f.own a n) (record { state = s; plane = f.plane })).state
-    pub backs : f.typed → (k : ℕ) (m : M) → mem.At k m → k ≤ f.h → Tidy (there k m) → f.back (there k m) ≡ there k m
+    pub tidy_first : f.in_fields → Tidy f.first
+    pub tidy_step : f.in_fields → (a : A) (n : ℕ) (s : S) → Tidy s → Tidy (o.step (f.own a n) (record { state = s; plane = f.plane })).state
+    pub backs : f.in_fields → (k : ℕ) (m : M) → mem.At k m → k ≤ f.h → Tidy (there k m) → f.back (there k m) ≡ there k m
 
   module _ (d : Shown) where
     row_wise : (a : A) (n : ℕ) → RowWise (unit_of o f) a f.off f.stride mem (cell a) there d.first (o.step (f.own a n))
@@ -59,7 +59,7 @@ module _ {S C A M U : Type 0} (o : Advancing S C) (f : Frame S C A) (mem : Memor
     kept-holds zero h = d.holds
     kept-holds (suc k) h = rw (add-one k) at (mem.goes k f.plane (kept k) h (λ i _. refl) (kept-holds k (omega arith)))
 
-    kept_tidy : f.typed → (k : ℕ) → k ≤ f.h → Tidy (there k (kept k))
+    kept_tidy : f.in_fields → (k : ℕ) → k ≤ f.h → Tidy (there k (kept k))
     kept_tidy t zero h = rw d.opens at (d.tidy_first t)
     kept_tidy t (suc k) h =
         rw (d.steps d.any 0 k (kept k) f.plane h (kept-holds k (omega arith)), add-one k) at (d.tidy_step t d.any 0 (there k (kept k)) (kept_tidy t k (omega arith)))

@@ -13,13 +13,13 @@ pub record Out (S : Type 0) : Type 0 where
 -- S are the states. C are the calls: an operation, a row count and all that is lent besides the plane.
 -- A is what may change from one advance to the next, as a list of classes that is lent: `own a n` is the unit's own advance by n rows, lent a and all else
 -- as at the opening, and is never declined where `ok a`. Where nothing may change A is `Unit`.
--- `back s` is what is taken back where the state s was put away, and `typed` that what the unit was opened with are numbers and bytes of the code's types.
+-- `back s` is what is taken back where the state s was put away, and `in_fields` that the numbers and bytes that the unit was opened with are those of the code's types.
 pub record Opened (S C A : Type 0) : Type 1 where
   pub answer : C → S → List ℕ → Out S
   pub own : A → ℕ → C
   pub ok : A → Bool
   pub back : S → S
-  pub typed : Type 0
+  pub in_fields : Type 0
   pub rows : S → ℕ
   pub complete : S → Bool
   pub w : ℕ
@@ -88,7 +88,7 @@ module _ {S C A : Type 0} (u : Opened S C A) where
   Valid (H ▷ refused c) = Valid H × ((u.answer c (run H).state (run H).plane).status ≢ 0)
   Valid (H ▷ refused_on c q) = Valid H × ((u.answer c (run H).state q).status ≢ 0)
   Valid (H ▷ write y x v) = Valid H × (y < finished H) × (x < u.w)
-  Valid (H ▷ put_away) = Valid H × u.typed
+  Valid (H ▷ put_away) = Valid H × u.in_fields
 
   -- i is no sample of rows k up to k'
   abbrev pub Off : ℕ → ℕ → ℕ → Type 0

@@ -1,21 +1,18 @@
 -- An answer is within its memory: a status, and behind it no more than the longest text.
 use mathlib.Core.Path.{◌≡◌, ap, ◌∙◌}
-use mathlib.Core.List.{List, [], ◌∷◌, ◌++◌}
+use mathlib.Core.List.{List, [], ◌++◌}
 use Prim.Native.Nat.{ℕ, ◌≤◌}
 use native.Mathlib.Omega.{arith}
 use lib.ListN.{length, take, length-append}
 use lib.Seq.{take_all}
-use Rattle.std.specs.Fmt.{decimal}
-use Rattle.std.proofs.lemmas.Fmt.{length-decimal-le}
-use Rattle.definition.specs.Card.{line_text, status_name, newline}
+use Rattle.definition.specs.Card.{line_text, status_name}
 use Rattle.definition.specs.StateText.{number_limit, text_limit}
-use Rattle.text_laws.proofs.Lines.{line-short}
+use Rattle.text_laws.proofs.Lines.{digits-short, line-short}
 use Rattle.text.proofs.Cuts.{put_more}
 use Rattle.state_texts.specs.Answers.{answer_size}
 
 status-short : length (line_text status_name 0) ≤ 9
-unfolding line_text
-status-short = omega (arith, length-append status_name (decimal 0 ++ (newline ∷ [])), length-append (decimal 0) (newline ∷ []), length-decimal-le 1 0 (omega arith) (omega arith) (omega arith))
+status-short = digits-short status_name 1 0 (omega arith) (omega arith) (omega arith)
 
 pub read-whole : (t o l m : List ℕ) → o ≡ [] → l ≡ take answer_size (o ++ line_text status_name 0) → m ≡ take answer_size (l ++ t) → length t ≤ text_limit → m ≡ line_text status_name 0 ++ t
 read-whole t o l m eo el em h =

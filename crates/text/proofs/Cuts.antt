@@ -1,15 +1,20 @@
 -- A text that is cut to its first n bytes each time that it grows is the whole one, cut once.
 use mathlib.Core.Path.{◌≡◌, refl, sym, ap, ◌∙◌}
-use mathlib.Core.List.{List, [], ◌∷◌, ◌++◌, append_assoc}
+use mathlib.Core.List.{List, [], ◌∷◌, ◌++◌, append_assoc, append-nil}
 use Prim.Native.Nat.{ℕ, zero, suc, ◌/◌, ◌%◌, ◌≤◌}
 use native.Mathlib.Omega.{arith}
 use lib.ListN.{length, take, length-take}
+use lib.Seq.{take_all}
 use Rattle.definition.specs.Card.{hex_text, glyph}
 
-pub cut_more : (n : ℕ) (x y : List ℕ) → take n (take n x ++ y) ≡ take n (x ++ y)
+cut_more : (n : ℕ) (x y : List ℕ) → take n (take n x ++ y) ≡ take n (x ++ y)
 cut_more zero x y = refl
 cut_more (suc n) [] y = refl
 cut_more (suc n) (a ∷ x) y = ap (λ l. a ∷ l) (cut_more n x y)
+
+-- nothing behind a text that has room
+pub cut_none : (n : ℕ) (x : List ℕ) → length x ≤ n → x ≡ take n (x ++ [])
+cut_none n x h = sym (ap (take n) (append-nil x) ∙ take_all n x h)
 
 -- two pieces, one behind the other
 pub cut_both : (n : ℕ) (x y z : List ℕ) → take n (take n (x ++ y) ++ z) ≡ take n (x ++ (y ++ z))

@@ -1,10 +1,9 @@
 -- Numbers that are put one behind the other.
-use mathlib.Core.Path.{◌≡◌, sym, ap, ◌∙◌}
-use mathlib.Core.List.{List, [], ◌∷◌, ◌++◌, append_assoc, append-nil}
-use Prim.Native.Nat.{ℕ, ◌+◌, ◌≤◌}
+use mathlib.Core.Path.{◌≡◌, ap, ◌∙◌}
+use mathlib.Core.List.{List, [], ◌∷◌, ◌++◌, append_assoc}
+use Prim.Native.Nat.{ℕ, ◌+◌}
 use native.Mathlib.Numerals.{add-one}
-use lib.ListN.{length, take}
-use lib.Seq.{take_all}
+use lib.ListN.{take}
 use Rattle.std.specs.Fmt.{decimal}
 use Rattle.definition.specs.Card.{end_of}
 use Rattle.definition.specs.StateText.{several_text}
@@ -13,10 +12,6 @@ use Rattle.text.proofs.Cuts.{cut_both}
 -- the first k of n
 abbrev pub first_numbers : (ℕ → ℕ) → ℕ → ℕ → List ℕ
 first_numbers f n k = several_text (λ j. decimal (f j) ++ (end_of n j ∷ [])) k
-
-pub none : (f : ℕ → ℕ) (n m : ℕ) (text : List ℕ) → length text ≤ m → text ≡ take m (text ++ first_numbers f n 0)
-unfolding several_text
-none f n m text h = sym (ap (take m) (append-nil text) ∙ take_all m text h)
 
 -- one more, and what ends it
 pub one_more : (f : ℕ → ℕ) (n m k number : ℕ) (o l t u : List ℕ) → number ≡ f k → l ≡ take m (o ++ first_numbers f n k) → t ≡ take m (l ++ decimal number) →

@@ -3,7 +3,7 @@
 
 ghost use Rattle.std.specs.Prelude.{◌≡◌, ℕ, cond, [], ◌∷◌, ◌++◌, ◌≤◌, ◌<◌, ltb, length, take, drop, decimal, None, Some};
 ghost use Rattle.definition.specs.Card.{line_text, hex_text, row_text, end_of, glyph as Card·glyph};
-ghost use Rattle.definition.specs.StateText.{several_text, list_text, number_limit, byte_limit, Within};
+ghost use Rattle.definition.specs.StateText.{several_text, list_text, number_limit, byte_limit, InField};
 
 use itoa::Buffer;
 use std::marker::Model;
@@ -59,7 +59,7 @@ impl<const N: usize> Text<N> {
         &self.bytes[..self.len]
     }
 
-    pub fn push(&mut self, byte: u8)
+    fn push(&mut self, byte: u8)
         ensures { self.new ≡ take N (self.old ++ (byte ∷ [])) }
     {
         if self.len < N {
@@ -71,23 +71,24 @@ impl<const N: usize> Text<N> {
     pub fn put_word(&mut self, word: &[u8])
         ensures { self.new ≡ take N (self.old ++ word.now) }
     {
+        // That the text is within its memory is known where a field is used: so here, and below.
         let _ = &self.len;
         for byte in word {
             self.push(*byte);
         }
     }
 
-    pub fn put_number(&mut self, n: usize)
+    fn put_number(&mut self, n: usize)
         ensures { self.new ≡ take N (self.old ++ decimal n) }
     {
         let mut digits = Buffer::new();
         self.put_word(digits.format(n).as_bytes());
     }
 
-    // A line of a name and a number. What the clauses named `fits` say, here and below, the types say already: so a caller knows how long its text is.
+    // A line of a name and a number. The clause `in_field`, here and below, says what the types say: so a caller knows how long its text is.
     #[tactic(auto, using(crate::proofs::Cuts::cut_both), unfolding(definition::specs::Card::line_text))]
     pub fn put_line(&mut self, name: &[u8], n: usize)
-        ensures fits { n ≤ number_limit }
+        ensures in_field { n ≤ number_limit }
         ensures text_after { self.new ≡ take N (self.old ++ line_text name.now n) }
     {
         self.put_word(name);
@@ -110,7 +111,7 @@ impl<const N: usize> Text<N> {
     // A line of a name and numbers, commas between them.
     #[tactic(auto, using(crate::proofs::Cuts::cut_both), unfolding(definition::specs::StateText::list_text, definition::specs::StateText::numbers_text))]
     pub fn put_list(&mut self, name: &[u8], list: &[usize])
-        ensures fits { Within number_limit (length list.now) list.now }
+        ensures in_field { InField number_limit (length list.now) list.now }
         ensures text_after { self.new ≡ take N (self.old ++ list_text name.now (length list.now) list.now) }
     {
         self.put_word(name);
@@ -120,7 +121,7 @@ impl<const N: usize> Text<N> {
     // .. and of classes.
     #[tactic(auto, using(crate::proofs::Cuts::cut_both), unfolding(definition::specs::StateText::list_text, definition::specs::StateText::numbers_text))]
     pub fn put_classes(&mut self, name: &[u8], list: &[u8])
-        ensures fits { Within byte_limit (length list.now) list.now }
+        ensures in_field { InField byte_limit (length list.now) list.now }
         ensures text_after { self.new ≡ take N (self.old ++ list_text name.now (length list.now) list.now) }
     {
         self.put_word(name);

@@ -43,14 +43,6 @@ module _ (limit end v p : ℕ) (s : List ℕ) (b : ℕ) (inside : p < length s) 
 
 -- THE CASES OF A NUMBER, whose first byte has the digit d
 module _ (limit : ℕ) (s : List ℕ) (end at d : ℕ) (is : d ≡ digit_of (input_at s at)) where
-  pub number-bad : 9 < d → number_at limit s end at ≡ wrong
-  unfolding number_at
-  number-bad h = rw (← is, lt-ltb 9 d h)
-
-  pub zero-more : d ≡ 0 → input_at s (at + 1) ≢ end → number_at limit s end at ≡ wrong
-  unfolding number_at
-  zero-more e h = rw (← is, e, ne_eqb (input_at s (at + 1)) end h)
-
   pub zero-ends : d ≡ 0 → input_at s (at + 1) ≡ end → number_at limit s end at ≡ value 0 (at + 2)
   unfolding number_at
   zero-ends e h = let a : at + 1 + 1 ≡ at + 2 = omega arith in rw (← is, e, eq-eqb (input_at s (at + 1)) end h, a)

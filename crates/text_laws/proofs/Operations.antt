@@ -11,7 +11,7 @@ use Rattle.definition.specs.declared.Operation.{Operation}
 use Rattle.definition.specs.declared.Operation.TheVariants.{Luma, User, Pretrained, Chroma}
 use Rattle.definition.specs.Rows.{state_bytes}
 use Rattle.definition.specs.Card.{input_at, value, ended, word_at, newline, row_at, row_text}
-use Rattle.definition.specs.StateText.{byte_limit, several_text, letter, op_name, op_text, letter_at, op_at, row_width, ten_text, ten_at, Within}
+use Rattle.definition.specs.StateText.{byte_limit, several_text, letter, op_name, op_text, letter_at, op_at, row_width, ten_text, ten_at, InField}
 use Rattle.text_laws.proofs.Found.{found-true, found-either}
 use Rattle.text_laws.proofs.Standing.{Stands, Reads, Spells, stands-second, stands-both, reads-then, spells-then}
 use Rattle.text_laws.proofs.Bytes.{byte-stands, first-byte, ended-reads, ended-spells, word-reads, word-spells}
@@ -56,14 +56,14 @@ unfolding op_text
 op-short op = omega arith
 
 -- TEN ROWS
-pub ten-reads : (op : Operation) (rows : List (List ℕ)) → length rows ≡ 10 → ((k : ℕ) → k < 10 → Within byte_limit (row_width op k) (get_or rows k [])) → Reads (ten_at op) (ten_text rows) rows
+pub ten-reads : (op : Operation) (rows : List (List ℕ)) → length rows ≡ 10 → ((k : ℕ) → k < 10 → InField byte_limit (row_width op k) (get_or rows k [])) → Reads (ten_at op) (ten_text rows) rows
 unfolding ten_at ten_text
 ten-reads op rows e h =
     several-reads (λ k s. row_at s (row_width op k)) [] 10 (λ k. row_text (get_or rows k [])) rows e (λ k b. row-reads (row_width op k) (get_or rows k []) (h k b))
 
-pub ten-spells : (op : Operation) → Spells (Each (λ k. Within byte_limit (row_width op k)) [] 10) (ten_at op) ten_text
+pub ten-spells : (op : Operation) → Spells (Each (λ k. InField byte_limit (row_width op k)) [] 10) (ten_at op) ten_text
 unfolding ten_at ten_text
-ten-spells op = several-spells (λ k s. row_at s (row_width op k)) [] (λ k. Within byte_limit (row_width op k)) (λ k. row_text) 10 (λ k b. row-spells (row_width op k))
+ten-spells op = several-spells (λ k s. row_at s (row_width op k)) [] (λ k. InField byte_limit (row_width op k)) (λ k. row_text) 10 (λ k b. row-spells (row_width op k))
 
 -- how long texts are, one behind the other
 total : (ℕ → ℕ) → ℕ → ℕ
@@ -82,7 +82,7 @@ ten-total User = omega arith
 ten-total Pretrained = omega arith
 ten-total Chroma = omega arith
 
-pub ten-short : (op : Operation) (rows : List (List ℕ)) → ((k : ℕ) → k < 10 → Within byte_limit (row_width op k) (get_or rows k [])) →
+pub ten-short : (op : Operation) (rows : List (List ℕ)) → ((k : ℕ) → k < 10 → InField byte_limit (row_width op k) (get_or rows k [])) →
     length (ten_text rows) ≤ 10 * 5 + 2 * state_bytes
 unfolding ten_text
 ten-short op rows h =

@@ -11,7 +11,7 @@ use lib.Dec.{ltb, leb}
 use lib.ListN.{length, get_or, take, length-append}
 use lib.Seq.{take-suc, take_all}
 use Rattle.definition.specs.Card.{input_at, value, reading, several, ended, word_at, newline, hex_of, pair_at, row_at, row_name, glyph, hex_text, row_text}
-use Rattle.definition.specs.StateText.{byte_limit, several_text, Within}
+use Rattle.definition.specs.StateText.{byte_limit, several_text, InField}
 use Rattle.text_laws.proofs.Found.{found-false, same-value}
 use Rattle.text_laws.proofs.Standing.{Stands, Reads, Spells, stands-both, reads-then, reads-as, spells-then}
 use Rattle.text_laws.proofs.Bytes.{byte-stands, first-byte, second-byte, ended-reads, ended-spells, word-reads, word-spells}
@@ -129,7 +129,7 @@ pub row-long : (row : List ℕ) → length (row_text row) ≡ 5 + 2 * length row
 unfolding row_text
 row-long row = omega (arith, hex-long row, length-append row_name (hex_text row), length-append (row_name ++ hex_text row) (newline ∷ []))
 
-pub row-reads : (w : ℕ) (row : List ℕ) → Within byte_limit w row → Reads (λ s. row_at s w) (row_text row) row
+pub row-reads : (w : ℕ) (row : List ℕ) → InField byte_limit w row → Reads (λ s. row_at s w) (row_text row) row
 unfolding row_at
 row-reads w row i =
     reads-as {f = λ s. row_at s w} (row-joined row)
@@ -139,7 +139,7 @@ row-reads w row i =
     (several-reads (λ k s. pair_at s) 0 w (λ k. hex_text (get_or row k 0 ∷ [])) row i.size (λ k b. pair-reads (get_or row k 0) (i.each k b))))
     (ended-reads newline row)))
 
-pub row-spells : (w : ℕ) → Spells (Within byte_limit w) (λ s. row_at s w) row_text
+pub row-spells : (w : ℕ) → Spells (InField byte_limit w) (λ s. row_at s w) row_text
 unfolding row_at
 row-spells w s at q row e =
     spells-then {f = λ s. word_at s row_name} (word-spells row_name refl) e (λ _ p _ i v.
@@ -147,4 +147,4 @@ row-spells w s at q row e =
     let n = ended-spells newline x (omega arith) s o q row u in
     let y : Stands (hex_text x) s p o = subst (λ t. Stands t s p o) (hex-all x w j.size) z in
     let t : Stands (row_text x) s at q = subst (λ t. Stands t s at q) (row-joined x) (stands-both i (stands-both y n.1)) in
-    subst (λ r. Within byte_limit w r × Stands (row_text r) s at q) n.0 (record { size = j.size; each = j.each }, t)))
+    subst (λ r. InField byte_limit w r × Stands (row_text r) s at q) n.0 (record { size = j.size; each = j.each }, t)))

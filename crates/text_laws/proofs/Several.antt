@@ -11,7 +11,7 @@ use lib.ListN.{length, get_or, take, length-append, get_or-append}
 use lib.Seq.{take-suc, take_all, get_or_at}
 use Rattle.std.specs.Fmt.{decimal}
 use Rattle.definition.specs.Card.{Reading, value, reading, several, end_of, newline, comma, digit_of}
-use Rattle.definition.specs.StateText.{number_at, several_text, numbers_text, numbers_at, Within}
+use Rattle.definition.specs.StateText.{number_at, several_text, numbers_text, numbers_at, InField}
 use Rattle.text_laws.proofs.Standing.{Stands, Reads, Spells, stands-none, stands-both, reads-end, reads-then, reads-last, spells-then, spells-end}
 use Rattle.text_laws.proofs.Decimals.{number-reads, number-spells, number-short}
 
@@ -96,13 +96,13 @@ end-byte n k = go (eqb (k + 1) n)
     go false = omega arith
 
 module _ (limit : ℕ) (fine : limit < 2 ^ 64) (n : ℕ) where
-  pub numbers-reads : (l : List ℕ) → Within limit n l → Reads (numbers_at limit n) (numbers_text n l) l
+  pub numbers-reads : (l : List ℕ) → InField limit n l → Reads (numbers_at limit n) (numbers_text n l) l
   unfolding numbers_at numbers_text
   numbers-reads l i =
       several-reads (λ k s. number_at limit s (end_of n k)) 0 n (λ k. decimal (get_or l k 0) ++ (end_of n k ∷ [])) l i.size
       (λ k b. number-reads limit (end_of n k) (end-ends n k) fine (get_or l k 0) (i.each k b))
 
-  pub numbers-spells : Spells (Within limit n) (numbers_at limit n) (numbers_text n)
+  pub numbers-spells : Spells (InField limit n) (numbers_at limit n) (numbers_text n)
   unfolding numbers_at numbers_text
   numbers-spells s at q l e =
       let r =
@@ -111,7 +111,7 @@ module _ (limit : ℕ) (fine : limit < 2 ^ 64) (n : ℕ) where
       let i : Each (λ _ v. v ≤ limit) 0 n l = r.0 in
       (record { size = i.size; each = i.each }, r.1)
 
-  pub numbers-short : (w : ℕ) (l : List ℕ) → 0 < w → limit < 10 ^ w → Within limit n l → length (numbers_text n l) ≤ n * (w + 1)
+  pub numbers-short : (w : ℕ) (l : List ℕ) → 0 < w → limit < 10 ^ w → InField limit n l → length (numbers_text n l) ≤ n * (w + 1)
   unfolding numbers_text
   numbers-short w l h m i =
       several-short n (w + 1) (λ k. decimal (get_or l k 0) ++ (end_of n k ∷ []))

@@ -10,7 +10,7 @@ use lib.ListN.{length}
 use Rattle.definition.specs.Rows.{index_count}
 use Rattle.definition.specs.Limits.{block_column_limit}
 use Rattle.definition.specs.Card.{line_text, value, wrong, reading, w_name, h_name}
-use Rattle.definition.specs.StateText.{number_limit, byte_limit, line_at, list_text, list_at, op_text, op_at, ten_text, ten_at, edges_name, done_name, classes_name, indices_name, next_name, strides_name, offsets_name, pair_name, kind_name, StateLines, state_text, lines_at, lines_in, Carried, text_limit}
+use Rattle.definition.specs.StateText.{number_limit, byte_limit, line_at, list_text, list_at, op_text, op_at, ten_text, ten_at, edges_name, done_name, classes_name, indices_name, next_name, strides_name, offsets_name, pair_name, kind_name, StateLines, state_text, lines_at, lines_in, LinesInFields, text_limit}
 use Rattle.text_laws.proofs.Found.{found-then, found-true, same-value}
 use Rattle.text_laws.proofs.Standing.{Stands, Reads, Spells, stands-both, stands-all, stands-whole, reads-then, reads-last, spells-then, spells-end, short-then}
 use Rattle.text_laws.proofs.Lines.{line-reads, line-spells, line-short, list-reads, list-spells, list-short}
@@ -23,7 +23,7 @@ small : byte_limit < 2 ^ 64
 small = omega arith
 
 -- THE LINES, one application to a line
-state-reads : (u : StateLines) → Carried u → Reads lines_at (state_text u) u
+state-reads : (u : StateLines) → LinesInFields u → Reads lines_at (state_text u) u
 unfolding lines_at state_text
 state-reads u c =
     reads-then _ (op-reads u.op)
@@ -40,7 +40,7 @@ state-reads u c =
     (reads-then _ (list-reads pair_name number_limit fine 2 u.pair c.pair)
     (reads-last _ (line-reads kind_name u.kind c.kind)))))))))))))
 
-state-spells : Spells Carried lines_at state_text
+state-spells : Spells LinesInFields lines_at state_text
 unfolding lines_at state_text
 state-spells s at q u e =
     spells-then {f = op_at} op-spells e (λ op p₁ _ i₁ e₁.
@@ -56,7 +56,7 @@ state-spells s at q u e =
     spells-then {f = list_at offsets_name number_limit 6} (list-spells offsets_name number_limit fine 6 refl) e₁₀ (λ offsets p₁₁ f₁₁ i₁₁ e₁₁.
     spells-then {f = list_at pair_name number_limit 2} (list-spells pair_name number_limit fine 2 refl) e₁₁ (λ pair p₁₂ f₁₂ i₁₂ e₁₂.
     spells-then {f = line_at kind_name} (line-spells kind_name refl) e₁₂ (λ kind p₁₃ f₁₃ i₁₃ e₁₃.
-    spells-end Carried state_text e₁₃
+    spells-end LinesInFields state_text e₁₃
     (record {
       w = f₂;
       h = f₃;
@@ -76,7 +76,7 @@ state-spells s at q u e =
     (stands-both i₁₁ (stands-both i₁₂ i₁₃)))))))))))))))))))))))))
 
 -- A STATE THAT FITS IS READ BACK FROM ITS TEXT
-pub read_back : (u : StateLines) → Carried u → lines_in (state_text u) ≡ value u (length (state_text u))
+pub read_back : (u : StateLines) → LinesInFields u → lines_in (state_text u) ≡ value u (length (state_text u))
 unfolding lines_in
 read_back u c =
     let t : List ℕ = state_text u in
@@ -84,7 +84,7 @@ read_back u c =
     ap (λ b. cond b (value u (length t)) wrong) (eq-eqb (length t) (length t) refl)
 
 -- WHAT IS READ IS A TEXT, AND FITS
-state-found : (s : List ℕ) (u : StateLines) (q : ℕ) → lines_in s ≡ value u q → Carried u × (s ≡ state_text u)
+state-found : (s : List ℕ) (u : StateLines) (q : ℕ) → lines_in s ≡ value u q → LinesInFields u × (s ≡ state_text u)
 unfolding lines_in
 state-found s u q e =
     found-then (lines_at s 0) e (λ x p w v.
@@ -92,16 +92,16 @@ state-found s u q e =
     let y = same-value t.1 in
     let i = state-spells s 0 p x w in
     let z : s ≡ state_text x = stands-whole (subst (λ k. Stands (state_text x) s 0 k) (eqb-true p (length s) t.0) i.1) in
-    subst (λ u. Carried u × (s ≡ state_text u)) y.0 (i.0, z))
+    subst (λ u. LinesInFields u × (s ≡ state_text u)) y.0 (i.0, z))
 
 pub written_back : (s : List ℕ) (u : StateLines) (q : ℕ) → lines_in s ≡ value u q → s ≡ state_text u
 written_back s u q e = (state-found s u q e).1
 
-pub carried : (s : List ℕ) (u : StateLines) (q : ℕ) → lines_in s ≡ value u q → Carried u
-carried s u q e = (state-found s u q e).0
+pub in_fields : (s : List ℕ) (u : StateLines) (q : ℕ) → lines_in s ≡ value u q → LinesInFields u
+in_fields s u q e = (state-found s u q e).0
 
 -- HOW LONG A TEXT IS
-pub short : (u : StateLines) → Carried u → length (state_text u) ≤ text_limit
+pub short : (u : StateLines) → LinesInFields u → length (state_text u) ≤ text_limit
 unfolding state_text
 short u c =
     short-then (op_text u.op) _ (op-short u.op)

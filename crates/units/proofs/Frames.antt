@@ -9,7 +9,7 @@ use Rattle.definition.specs.Units.{Lent, final_sample}
 use Rattle.definition.specs.Calls.{Call, call_of}
 use Rattle.history.proofs.Fits.{Frame}
 use Rattle.units.specs.declared.State.{State}
-use Rattle.definition.specs.StateText.{Typed}
+use Rattle.definition.specs.StateText.{OpenedInFields}
 use Rattle.units.specs.Openings.{open_state}
 use Rattle.units.specs.Texts.{back}
 
@@ -19,7 +19,7 @@ frame_of op n l p =
       own = λ a c. call_of op c l;
       ok = λ a. true;
       back = back;
-      typed = Typed n l p;
+      in_fields = OpenedInFields n l p;
       w = n.w;
       h = n.h;
       off = n.off;

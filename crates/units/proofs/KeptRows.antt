@@ -6,13 +6,13 @@ use native.Mathlib.Nat.{zero-add, add-zero, suc-add}
 use native.Mathlib.Numerals.{add-one}
 use native.Mathlib.Omega.{arith}
 use lib.ListN.{length, get_or, take, drop, replicate, length-drop, length-replicate, get_or-replicate}
-use lib.Seq.{take_all, take-add, length-take-le, get_or-take, get_or-drop, ext_get_or, drop-cons, drop-drop}
+use lib.Seq.{take-add, length-take-le, get_or-take, get_or-drop, ext_get_or, drop-cons, drop-drop}
 use Rattle.std.proofs.lemmas.List.{take-append-drop}
 use Rattle.definition.specs.declared.Operation.{Operation}
 use Rattle.definition.specs.declared.Operation.TheVariants.{Luma, User, Pretrained, Chroma}
 use Rattle.definition.specs.Rows.{tab, state_bytes, index_count}
 use Rattle.definition.specs.Card.{row_text, joined}
-use Rattle.definition.specs.StateText.{row_width, several_text, ten_text, byte_limit, Within, Bytes}
+use Rattle.definition.specs.StateText.{row_width, several_text, ten_text, byte_limit, InField, Bytes}
 use Rattle.laws.proofs.Lists.{tab-at, tab_cong, length_tab}
 use Rattle.card_laws.proofs.Planes.{front, behind}
 use Rattle.text.proofs.Cuts.{cut_both}
@@ -46,10 +46,6 @@ row-inside op k h =
 abbrev pub first_texts : Operation → List ℕ → ℕ → List ℕ
 first_texts op rows k = several_text (λ j. row_text (get_or (tab index_count (kept_row op rows)) j [])) k
 
-pub texts-none : (op : Operation) (rows text : List ℕ) (n : ℕ) → length text ≤ n → text ≡ take n (text ++ first_texts op rows 0)
-unfolding several_text
-texts-none op rows text n h = sym (ap (take n) (append-nil text) ∙ take_all n text h)
-
 -- one row more, lent as a part of them all
 pub texts-more : (op : Operation) (rows o l m : List ℕ) (n k from width : ℕ) → k < index_count → from ≡ bytes_before op k → width ≡ row_width op k → l ≡ take n (o ++ first_texts op rows k) →
     m ≡ take n (l ++ row_text (take (from + width - from) (drop from rows))) → m ≡ take n (o ++ first_texts op rows (k + 1))
@@ -65,7 +61,7 @@ unfolding ten_text
 texts-all op rows k e = rw e
 
 -- a row of bytes, as long as it has to be
-pub row-within : (op : Operation) (rows : List ℕ) → length rows ≡ state_bytes → Bytes rows → (k : ℕ) → k < index_count → Within byte_limit (row_width op k) (get_or (tab index_count (kept_row op rows)) k [])
+pub row-within : (op : Operation) (rows : List ℕ) → length rows ≡ state_bytes → Bytes rows → (k : ℕ) → k < index_count → InField byte_limit (row_width op k) (get_or (tab index_count (kept_row op rows)) k [])
 row-within op rows long bytes k h =
     rw (tab-at [] index_count (kept_row op rows) k h)
     (record {

@@ -8,7 +8,7 @@ use Rattle.definition.specs.declared.Operation.{Operation}
 use Rattle.definition.specs.Limits.{block_column_limit}
 use Rattle.definition.specs.Rows.{tab, index_count}
 use Rattle.definition.specs.Card.{w_name, h_name, line_text}
-use Rattle.definition.specs.StateText.{op_text, list_text, ten_text, edges_name, done_name, classes_name, indices_name, next_name, strides_name, offsets_name, pair_name, kind_name, state_text, text_limit, Within, Carried}
+use Rattle.definition.specs.StateText.{op_text, list_text, ten_text, edges_name, done_name, classes_name, indices_name, next_name, strides_name, offsets_name, pair_name, kind_name, state_text, text_limit, InField, LinesInFields}
 use Rattle.text.proofs.Cuts.{put_more}
 use Rattle.text_laws.proofs.States.{short}
 use Rattle.units.specs.declared.State.{State}
@@ -19,7 +19,7 @@ abbrev pub Put : List ℕ → List ℕ → List ℕ → Type 0
 Put before piece after = after ≡ take text_limit (before ++ piece)
 
 -- a list of so many numbers
-pub sized-within : (limit n : ℕ) (l : List ℕ) → length l ≡ n → Within limit (length l) l → Within limit n l
+pub sized-within : (limit n : ℕ) (l : List ℕ) → length l ≡ n → InField limit (length l) l → InField limit n l
 sized-within limit n l e i = rw e at i
 
 pub whole_put : (op : Operation) (s : State) (x₀ x₁ x₂ x₃ x₄ x₅ x₆ x₇ x₈ x₉ x₁₀ x₁₁ x₁₂ x₁₃ : List ℕ) →
@@ -37,7 +37,7 @@ pub whole_put : (op : Operation) (s : State) (x₀ x₁ x₂ x₃ x₄ x₅ x₆
     Put x₁₀ (list_text offsets_name 6 (lines_of op s).offsets) x₁₁ →
     Put x₁₁ (list_text pair_name 2 (lines_of op s).pair) x₁₂ →
     Put x₁₂ (line_text kind_name s.given.kind) x₁₃ →
-    Carried (lines_of op s) → x₁₃ ≡ state_text (lines_of op s)
+    LinesInFields (lines_of op s) → x₁₃ ≡ state_text (lines_of op s)
 unfolding state_text
 whole_put op s x₀ x₁ x₂ x₃ x₄ x₅ x₆ x₇ x₈ x₉ x₁₀ x₁₁ x₁₂ x₁₃ none e₁ e₂ e₃ e₄ e₅ e₆ e₇ e₈ e₉ e₁₀ e₁₁ e₁₂ e₁₃ c =
     let f₆ : Put x₅ (list_text classes_name block_column_limit s.classes) x₆ = rw c.classes.size at e₆ in

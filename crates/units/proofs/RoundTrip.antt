@@ -17,13 +17,13 @@ use Rattle.definition.specs.Rows.{tab, state_bytes, index_count}
 use Rattle.definition.specs.Units.{number_of, operation_of}
 use Rattle.definition.specs.Refusals.{index_limit, next_limit, indices_up_to}
 use Rattle.definition.specs.Card.{Reading, value, wrong, joined}
-use Rattle.definition.specs.StateText.{StateLines, Within, Carried, Typed, number_limit, text_limit, state_text, lines_in}
+use Rattle.definition.specs.StateText.{StateLines, InField, LinesInFields, OpenedInFields, number_limit, text_limit, state_text, lines_in}
 use Rattle.definition.specs.Units.{Lent}
 use Rattle.laws.proofs.Lists.{length_tab, get_or-tab}
 use Rattle.laws.proofs.Passes.{pass_all}
-use Rattle.text_laws.proofs.States.{read_back, written_back, carried, short}
+use Rattle.text_laws.proofs.States.{read_back, written_back, in_fields, short}
 use Rattle.units.specs.declared.State.{State}
-use Rattle.units.specs.Texts.{bytes_before, kept_row, lines_of, state_from, carried_bytes, cleared, InFields, misshapen, shaped_as, shaped, text_by, text_of, state_found, state_if, state_by, state_in, back_by, back}
+use Rattle.units.specs.Texts.{bytes_before, kept_row, lines_of, state_from, carried_bytes, cleared, StateInFields, misshapen, shaped_as, shaped, text_by, text_of, state_found, state_if, state_by, state_in, back_by, back}
 use Rattle.units.specs.Openings.{opened_of}
 use Rattle.units.proofs.KeptRows.{before-ten, rows-together, zeros-behind, rows-again, row-within}
 use Rattle.units.proofs.Tidy.{Tidy}
@@ -114,13 +114,13 @@ lines-back op s o h =
     }
 
 -- a text that was written is read, and gives the state that was put away, but for what it has no place for
-pub back-again : (s : State) (t : List ℕ) → InFields s → text_of s ≡ Ok t → state_in t ≡ Ok (cleared s)
+pub back-again : (s : State) (t : List ℕ) → StateInFields s → text_of s ≡ Ok t → state_in t ≡ Ok (cleared s)
 unfolding text_of state_in
 back-again s t f e = go (shaped s) refl e
   where
     read : (op : Operation) → Shaped op s → state_in (state_text (lines_of op s)) ≡ Ok (cleared s)
     read op x =
-        rw (read_back (lines_of op s) (f.each op), shaped-by op (state_from (lines_of op s)) (record { number = refl; fine = x.fine })) (ap Ok (lines-back op s x.number f.long))
+        rw (read_back (lines_of op s) (f.lines op x.number), shaped-by op (state_from (lines_of op s)) (record { number = refl; fine = x.fine })) (ap Ok (lines-back op s x.number f.long))
 
     go : (r : Result Operation Refusal) → shaped s ≡ r → text_by r s ≡ Ok t → state_in t ≡ Ok (cleared s)
     go (Ok op) g w = let d : state_text (lines_of op s) ≡ t = cc in rw (← d) (read op (by_shape s op g))
@@ -134,7 +134,7 @@ list-whole : (n : ℕ) (l : List ℕ) → length l ≡ n → tab n (λ k. get_or
 list-whole n l e =
     ext_get_or 0 (tab n (λ k. get_or l k 0)) l (length_tab n (λ k. get_or l k 0) ∙ sym e) (λ k h. get_or-tab n (λ k. get_or l k 0) k (rw (length_tab n (λ k. get_or l k 0)) at h))
 
-lines-again : (u : StateLines) → Carried u → lines_of u.op (state_from u) ≡ u
+lines-again : (u : StateLines) → LinesInFields u → lines_of u.op (state_from u) ≡ u
 lines-again u c =
     let r : tab index_count (kept_row u.op (joined u.rows ++ replicate (state_bytes - length (joined u.rows)) 0)) ≡ u.rows =
     rows-again u.op u.rows _ c.ten (λ k h. (c.rows k h).size) in
@@ -161,7 +161,7 @@ unfolding state_in text_of
 text-again t s e = go (lines_in t) refl e
   where
     text : (u : StateLines) (q : ℕ) → lines_in t ≡ value u q → Shaped u.op (state_from u) → text_of (state_from u) ≡ Ok t
-    text u q w x = rw (shaped-by u.op (state_from u) x) (ap Ok (ap state_text (lines-again u (carried t u q w)) ∙ sym (written_back t u q w)))
+    text u q w x = rw (shaped-by u.op (state_from u) x) (ap Ok (ap state_text (lines-again u (in_fields t u q w)) ∙ sym (written_back t u q w)))
 
     at : (u : StateLines) (q : ℕ) (r : Result Operation Refusal) → lines_in t ≡ value u q → shaped (state_from u) ≡ r → state_if r (state_from u) ≡ Ok s → text_of s ≡ Ok t
     at u q (Ok op) w g h =
@@ -182,13 +182,13 @@ text-again t s e = go (lines_in t) refl e
         no h = cc
 
 -- HOW LONG a text is
-pub text-short : (s : State) (t : List ℕ) → InFields s → text_of s ≡ Ok t → length t ≤ text_limit
+pub text-short : (s : State) (t : List ℕ) → StateInFields s → text_of s ≡ Ok t → length t ≤ text_limit
 unfolding text_of
-text-short s t f e = go (shaped s) e
+text-short s t f e = go (shaped s) refl e
   where
-    go : (r : Result Operation Refusal) → text_by r s ≡ Ok t → length t ≤ text_limit
-    go (Ok op) w = let d : state_text (lines_of op s) ≡ t = cc in rw (← d) (short (lines_of op s) (f.each op))
-    go (Err r) w = absurd (no w)
+    go : (r : Result Operation Refusal) → shaped s ≡ r → text_by r s ≡ Ok t → length t ≤ text_limit
+    go (Ok op) g w = let d : state_text (lines_of op s) ≡ t = cc in rw (← d) (short (lines_of op s) (f.lines op (by_shape s op g).number))
+    go (Err r) g w = absurd (no w)
       where
         no : ◌≡◌ {A = Result (List ℕ) Refusal} (Err r) (Ok t) → ⊥
         no w = cc
@@ -198,7 +198,7 @@ unfolding text_of
 text-by op s x = rw (shaped-by op s x)
 
 -- a part of numbers that are in their field
-part-within : (limit n m k : ℕ) (l : List ℕ) → Within limit n l → k + m ≤ n → Within limit m (take m (drop k l))
+part-within : (limit n m k : ℕ) (l : List ℕ) → InField limit n l → k + m ≤ n → InField limit m (take m (drop k l))
 part-within limit n m k l w h =
     record {
       size = length-take-le m (drop k l) (omega (arith, length-drop k l, w.size));
@@ -212,10 +212,10 @@ index-low User = (omega arith, omega arith)
 index-low Pretrained = (omega arith, omega arith)
 index-low Chroma = (omega arith, omega arith)
 
-tidy-carried : (op : Operation) (s : State) (l : Lent) (p : List ℕ) → s.done ≤ s.given.h → Typed s.given l p → Tidy op s → InFields s
-tidy-carried op s l p d t y = record { long = y.long; each = λ o. fields o }
+tidy-in_fields : (op : Operation) (s : State) (l : Lent) (p : List ℕ) → s.done ≤ s.given.h → OpenedInFields s.given l p → Tidy op s → StateInFields s
+tidy-in_fields op s l p d t y = record { long = y.long; lines = λ o e. fields o }
   where
-    fields : (o : Operation) → Carried (lines_of o s)
+    fields : (o : Operation) → LinesInFields (lines_of o s)
     fields o =
         record {
           w = t.numbers.each 0 (omega arith);
@@ -247,12 +247,12 @@ tidy-cleared op s o y =
     by Pretrained y i h = y.rest refl i h
     by Chroma y i h = get_or-eq_default s.rows 0 (rw (sym y.long) at h)
 
-pub comes-back : (op : Operation) (s : State) (l : Lent) (p : List ℕ) → s.op ≡ number_of op → s.done ≤ s.given.h → Typed s.given l p → Tidy op s → back s ≡ s
+pub comes-back : (op : Operation) (s : State) (l : Lent) (p : List ℕ) → s.op ≡ number_of op → s.done ≤ s.given.h → OpenedInFields s.given l p → Tidy op s → back s ≡ s
 unfolding back
 comes-back op s l p o d t y =
     let x : Shaped op s = record { number = o; fine = within-limits op s d y.low y.next } in
     let e : text_of s ≡ Ok (state_text (lines_of op s)) = text-by op s x in
-    ap back_by e ∙ ap (λ r. (opened_of r).state) (back-again s (state_text (lines_of op s)) (tidy-carried op s l p d t y) e) ∙ tidy-cleared op s o y
+    ap back_by e ∙ ap (λ r. (opened_of r).state) (back-again s (state_text (lines_of op s)) (tidy-in_fields op s l p d t y) e) ∙ tidy-cleared op s o y
 
 -- .. and of a text that is read
 pub read-short : (t : List ℕ) (s : State) → state_in t ≡ Ok s → length t ≤ text_limit
@@ -260,7 +260,7 @@ unfolding state_in
 read-short t s e = go (lines_in t) refl e
   where
     go : (r : Reading StateLines) → lines_in t ≡ r → state_by (state_found r) ≡ Ok s → length t ≤ text_limit
-    go (value u q) w h = rw (written_back t u q w) (short u (carried t u q w))
+    go (value u q) w h = rw (written_back t u q w) (short u (in_fields t u q w))
     go wrong w h = absurd (no h)
       where
         no : ◌≡◌ {A = Result State Refusal} (Err Text) (Ok s) → ⊥

@@ -17,7 +17,7 @@ use Rattle.definition.specs.Rows.{tab, row_bytes, luma_row_bytes, luma_rows_at, 
 use Rattle.definition.specs.Sample.{limit8}
 use Rattle.definition.specs.Units.{border, chromatic, Lent}
 use Rattle.definition.specs.Refusals.{index_limit, next_limit, rows_size}
-use Rattle.definition.specs.StateText.{Bytes, Typed}
+use Rattle.definition.specs.StateText.{Bytes, OpenedInFields}
 use Rattle.laws.proofs.Ints.{never}
 use Rattle.laws.proofs.Lists.{length_tab, tab-low, sets_behind}
 use Rattle.history.proofs.Ring.{Ring, fetch, append_low}
@@ -130,7 +130,7 @@ module _ (n : Given) (l : Lent) (p : List ℕ) where
         count = length-append (open_own n l p).idx (open_luma n l).idx ∙ (λ i. open-count 4 first 1 i + open-count 4 first 1 i);
       }
 
-module _ (n g : Given) (l : Lent) (p : List ℕ) (t : Typed n l p) where
+module _ (n g : Given) (l : Lent) (p : List ℕ) (t : OpenedInFields n l p) where
   -- a unit's padded rows are bytes,
   pads : (op : Operation) (R : ℕ) → Bytes (pad_row op g l p R)
   pads op = pad-bytes op g l p t.plane t.left t.top t.bottom
@@ -216,13 +216,13 @@ module _ (n g : Given) (l : Lent) (p : List ℕ) (t : Typed n l p) where
   classes-columns Chroma done classes r k = k
 
 -- A UNIT IS TIDY when it is opened,
-pub tidy_open : (op : Operation) (n : Given) (l : Lent) (p : List ℕ) → Typed n l p → Tidy op (open_state op n l p)
+pub tidy_open : (op : Operation) (n : Given) (l : Lent) (p : List ℕ) → OpenedInFields n l p → Tidy op (open_state op n l p)
 unfolding open_state
 tidy_open op n l p t =
     tidy op (open_state op n l p) (open-ringed n l p op) (open-clean n n l p t op) (blank-bytes block_column_limit, length-replicate {A = ℕ} block_column_limit 0)
 
 -- .. and each step leaves it so
-pub tidy_step : (op : Operation) (l : Lent) (n : Given) (s : State) (p : List ℕ) → Typed n l p → Tidy op s → Tidy op (state_of op l s p)
+pub tidy_step : (op : Operation) (l : Lent) (n : Given) (s : State) (p : List ℕ) → OpenedInFields n l p → Tidy op s → Tidy op (state_of op l s p)
 unfolding state_of
 tidy_step op l n s p t y =
     let r : Ring = rows_now op l s p in

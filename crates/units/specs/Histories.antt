@@ -7,7 +7,7 @@ use Rattle.definition.specs.Units.{Lent, final_sample}
 use Rattle.definition.specs.Calls.{Call, call_of}
 use Rattle.history.specs.History.{Opened, History, Valid, After}
 use Rattle.units.specs.declared.State.{State}
-use Rattle.definition.specs.StateText.{Typed}
+use Rattle.definition.specs.StateText.{OpenedInFields}
 use Rattle.units.specs.Openings.{open_state}
 use Rattle.units.specs.Advances.{is_finished, answer}
 use Rattle.units.specs.Texts.{back}
@@ -20,7 +20,7 @@ unit op n l p =
       own = λ a count. call_of op count l;
       ok = λ a. true;
       back = back;
-      typed = Typed n l p;
+      in_fields = OpenedInFields n l p;
       rows = λ s. s.done;
       complete = is_finished;
       w = n.w;

@@ -10,7 +10,7 @@ use Rattle.definition.specs.Units.{number_of, operation_of}
 use Rattle.definition.specs.Calls.{given_c}
 use Rattle.definition.specs.Refusals.{bad_shape, rows_size}
 use Rattle.definition.specs.Card.{Reading, value, wrong, joined}
-use Rattle.definition.specs.StateText.{StateLines, Carried, row_width, state_text, lines_in}
+use Rattle.definition.specs.StateText.{StateLines, LinesInFields, row_width, state_text, lines_in}
 use Rattle.units.specs.declared.State.{State}
 use Rattle.units.specs.declared.Written.{Written}
 use Rattle.units.specs.Openings.{no_state, opened_of}
@@ -72,10 +72,10 @@ cleared s =
       rows = take (carried_bytes s) s.rows ++ replicate (state_bytes - carried_bytes s) 0;
     }
 
--- each number in its field: in the code the types say so
-pub record InFields (s : State) : Type 0 where
+-- each number in its field, as the types of the code say
+pub record StateInFields (s : State) : Type 0 where
   pub long : length s.rows ≡ state_bytes
-  pub each : (op : Operation) → Carried (lines_of op s)
+  pub lines : (op : Operation) → s.op ≡ number_of op → LinesInFields (lines_of op s)
 
 -- 13: the shape alone, of whatever operation the state is
 abbrev pub misshapen : Operation → State → Bool
@@ -113,6 +113,8 @@ pub record WrittenState (r : Written) (s : State) (old new : List ℕ) : Type 0 
   pub status : r.status ≡ status_from (fitting (length old) (text_of s))
   pub len : r.len ≡ length_from (fitting (length old) (text_of s))
   pub out : new ≡ put_from (fitting (length old) (text_of s)) old
+  -- so a state that was written is one of which read after write speaks
+  pub in_fields : r.status ≡ 0 → StateInFields s
 
 -- as C has it
 abbrev pub written_of : Result ℕ Refusal → Written

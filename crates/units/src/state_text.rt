@@ -1,9 +1,11 @@
 // A unit that is put away and taken back: the text of its state.
-ghost use Rattle.std.specs.Prelude.{◌≡◌, ◌++◌, ◌≤◌, length, take};
-ghost use Rattle.definition.specs.Rows.{tab, index_count};
+ghost use Rattle.std.specs.Prelude.{◌≡◌, cond, ◌&&◌, ◌++◌, ◌≤◌, ltb, length, take};
+ghost use Rattle.definition.specs.Rows.{tab, index_count, row_bytes, luma_row_bytes};
+ghost use Rattle.definition.specs.Units.{chromatic};
+ghost use Rattle.definition.specs.Card.{row_at};
 ghost use Rattle.definition.specs.StateText.{op_text, op_at, ten_text, ten_at, state_text, lines_in, row_width, text_limit, Bytes};
-ghost use Rattle.units.specs.Texts.{kept_row, lines_of, shaped, written_of, WrittenState, state_found, state_in};
-ghost use Rattle.card_reader.specs.Answers.{reading_of};
+ghost use Rattle.units.specs.Texts.{kept_row, lines_of, StateInFields, shaped, written_of, WrittenState, state_found, state_in};
+ghost use Rattle.card_reader.specs.Answers.{reading_of, line_of};
 ghost use Rattle.card_reader.specs.Lines.{Joins};
 
 use crate::{State, Written};
@@ -27,11 +29,17 @@ fn op_line(op: Operation) -> &'static [u8]
     }
 }
 
-// The bytes of row k of ten: a chroma unit's last five are luma's.
+// Whether row k of ten is luma's: of a chroma unit the last five are.
+fn is_luma_row(op: Operation, k: usize) -> bool
+    ensures { result ≡ (chromatic op && ltb 4 k) }
+{
+    is_chroma(op) && 4 < k
+}
+
 fn row_width(op: Operation, k: usize) -> usize
     ensures { result ≡ row_width op k }
 {
-    if is_chroma(op) && 4 < k {
+    if is_luma_row(op, k) {
         LUMA_ROW_BYTES
     } else {
         ROW_BYTES
@@ -66,6 +74,21 @@ fn read_op(s: &[u8], at: usize) -> Option<(Operation, usize)>
     Some((op, read_byte(s, letter + 1, b'\n')?))
 }
 
+// A row into its place among the ten.
+fn read_kept_row(s: &[u8], at: usize, is_luma: bool, place: &mut [u8]) -> Option<usize>
+    requires { length place.old ≡ cond is_luma luma_row_bytes row_bytes }
+    ensures { line_of result place.new ≡ row_at s.now (length place.old) at }
+{
+    if is_luma {
+        let (row, next) = read_row::<LUMA_ROW_BYTES>(s, at)?;
+        place.copy_from_slice(&row);
+        return Some(next);
+    }
+    let (row, next) = read_row::<ROW_BYTES>(s, at)?;
+    place.copy_from_slice(&row);
+    Some(next)
+}
+
 fn read_rows(s: &[u8], at: usize, op: Operation, rows: &mut [u8; STATE_BYTES]) -> Option<usize>
     ensures { Joins (ten_at op s.now at) result rows.old rows.new }
 {
@@ -73,7 +96,7 @@ fn read_rows(s: &[u8], at: usize, op: Operation, rows: &mut [u8; STATE_BYTES]) -
     let mut from = 0;
     for k in 0..INDEX_COUNT {
         let to = from + row_width(op, k);
-        next = read_row(s, next, &mut rows[from..to])?;
+        next = read_kept_row(s, next, is_luma_row(op, k), &mut rows[from..to])?;
         from = to;
     }
     Some(next)
@@ -89,19 +112,14 @@ fn read_state(s: &[u8]) -> Option<State>
     let (h, p3) = read_line(s, p2, b"h=")?;
     let (edges, p4) = read_line(s, p3, b"edges=")?;
     let (done, p5) = read_line(s, p4, b"done=")?;
-    let mut classes = [0u8; BLOCK_COLUMN_LIMIT];
-    let p6 = read_classes(s, p5, b"classes=", &mut classes)?;
-    let mut indices = [0usize; INDEX_COUNT];
-    let p7 = read_list(s, p6, b"indices=", &mut indices)?;
+    let (classes, p6) = read_classes::<BLOCK_COLUMN_LIMIT>(s, p5, b"classes=")?;
+    let (indices, p7) = read_list::<INDEX_COUNT>(s, p6, b"indices=")?;
     let (next, p8) = read_line(s, p7, b"next=")?;
     let mut rows = [0u8; STATE_BYTES];
     let p9 = read_rows(s, p8, op, &mut rows)?;
-    let mut strides = [0usize; 2];
-    let p10 = read_list(s, p9, b"strides=", &mut strides)?;
-    let mut offsets = [0usize; 6];
-    let p11 = read_list(s, p10, b"offsets=", &mut offsets)?;
-    let mut pair = [0usize; 2];
-    let p12 = read_list(s, p11, b"pair=", &mut pair)?;
+    let (strides, p10) = read_list::<2>(s, p9, b"strides=")?;
+    let (offsets, p11) = read_list::<6>(s, p10, b"offsets=")?;
+    let (pair, p12) = read_list::<2>(s, p11, b"pair=")?;
     let (kind, end) = read_line(s, p12, b"kind=")?;
     if end != s.len() {
         return None;
@@ -162,7 +180,8 @@ impl State {
 
     // The text of a state of an operation.
     fn text(&self, op: Operation) -> Text<STATE_TEXT_LIMIT>
-        ensures { result ≡ state_text (lines_of op self.now) }
+        ensures in_fields { StateInFields self.now }
+        ensures value { result ≡ state_text (lines_of op self.now) }
     {
         let g = &self.given;
         let mut text = Text::new();

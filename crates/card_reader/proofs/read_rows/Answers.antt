@@ -19,7 +19,7 @@ pub loop-y-preserved : goal.loop-y-preserved
 loop-y-preserved c =
     let room = in_plane c.loop-y.y c.args.w c.args.h _ c.loop-y-test.true c.requires in
     let e = row-long c.args.s.now _ _ (alike-in-turn c.args.w) c.args.at c.args.p.now c.loop-y.p c.loop-y.next c.loop-y.y c.loop-y.invariant room in
-    joined-next c.args.s.now _ _ (alike-in-turn c.args.w) c.args.at c.args.p.now c.loop-y.p c.loop-y.next c.loop-y.y c.loop-y.invariant c.read_row.new.row (c.read_row.auto.row ∙ e) _ (rw e at (sym c.in_ok-next.ensures))
+    joined-next c.args.s.now _ _ (alike-in-turn c.args.w) c.args.at c.args.p.now c.loop-y.p c.loop-y.next c.loop-y.y c.loop-y.invariant c.read_row_into.new.row (c.read_row_into.auto.row ∙ e) _ (rw e at (sym c.in_ok-next.ensures))
 
 pub returns : goal.returns
 unfolding rows_at

@@ -17,4 +17,4 @@ returns-in-Ok c =
 pub returns-in-Err : goal.returns-in-Err
 returns-in-Err c =
     rw (← c.in-Err.ensures)
-    (refused-whole _ _ _ c.new-answer.ensures c.put_line-in-Err.ensures.text_after c.put_line-in-Err.ensures.fits ∙ ap (line_text status_name) (c.from-in-Err.ensures ∙ c.from.ensures))
+    (refused-whole _ _ _ c.new-answer.ensures c.put_line-in-Err.ensures.text_after c.put_line-in-Err.ensures.in_field ∙ ap (line_text status_name) (c.from-in-Err.ensures ∙ c.from.ensures))

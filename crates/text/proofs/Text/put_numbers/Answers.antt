@@ -1,12 +1,15 @@
 use Rattle.std.proofs.Common.{◌≡◌, ◌≤◌, ◌∙◌, ap, ◌++◌, [], ◌∷◌, length, take, arith}
 use lib.ListN.{length-take}
-use Rattle.text.proofs.Numbers.{first_numbers, none, one_more}
+use Rattle.definition.specs.StateText.{several_text}
+use Rattle.text.proofs.Cuts.{cut_none}
+use Rattle.text.proofs.Numbers.{first_numbers, one_more}
 use Rattle.text.proofs.Text.put_numbers.Goals as goal
 
 pub loop-k-init : goal.loop-k-init
+unfolding several_text
 loop-k-init g c = λ f h.
     let l : length c.args.self.now ≤ g.row.N = rw (← c.self.view_is) (omega (arith, c.self.invariant, length-take c.self.inside.len c.self.inside.bytes)) in
-    none f c.args.n g.row.N c.args.self.now l
+    cut_none g.row.N c.args.self.now l
 
 pub loop-k-preserved : goal.loop-k-preserved
 loop-k-preserved g c = λ f h.

@@ -1,12 +1,13 @@
 use Rattle.std.proofs.Common.{◌∙◌, refl, ap, ◌++◌, take, arith}
-use Rattle.definition.specs.StateText.{text_limit}
+use Rattle.definition.specs.StateText.{several_text, text_limit}
+use Rattle.text.proofs.Cuts.{cut_none}
 use Rattle.units.specs.Texts.{bytes_before}
-use Rattle.units.proofs.KeptRows.{before-next, row-inside, texts-none, texts-more, texts-all}
+use Rattle.units.proofs.KeptRows.{before-next, row-inside, texts-more, texts-all}
 use Rattle.units.proofs.state_text.put_rows.Goals as goal
 
 pub loop-k-init : goal.loop-k-init
-unfolding bytes_before
-loop-k-init c = (refl, texts-none c.args.op c.args.rows.now c.args.text.now text_limit c.requires)
+unfolding bytes_before several_text
+loop-k-init c = (refl, cut_none text_limit c.args.text.now c.requires)
 
 pub overflow_add-to : goal.overflow_add-to
 overflow_add-to c = let i = row-inside c.args.op c.loop-k.k c.loop-k-test.true in omega (arith, i, c.loop-k.invariant.0, c.row_width.ensures)

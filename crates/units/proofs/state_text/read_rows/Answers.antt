@@ -12,8 +12,14 @@ loop-k-init c = (refl, joined-begins c.args.s.now _ _ (kept-in-turn c.args.op) c
 pub overflow_add-to : goal.overflow_add-to
 overflow_add-to c = let i = row-inside c.args.op c.loop-k.k c.loop-k-test.true in omega (arith, i, c.loop-k.invariant.0, c.row_width.ensures)
 
-pub slice_bounds-read_row-end : goal.slice_bounds-read_row-end
-slice_bounds-read_row-end c = let i = row-inside c.args.op c.loop-k.k c.loop-k-test.true in omega (arith, i, c.loop-k.invariant.0, c.row_width.ensures)
+pub slice_bounds-read_kept_row-end : goal.slice_bounds-read_kept_row-end
+slice_bounds-read_kept_row-end c = let i = row-inside c.args.op c.loop-k.k c.loop-k-test.true in omega (arith, i, c.loop-k.invariant.0, c.row_width.ensures)
+
+pub read_kept_row-requires : goal.read_kept_row-requires
+read_kept_row-requires c =
+    let op = c.args.op in
+    let room : bytes_before op c.loop-k.k + row_width op c.loop-k.k ≤ length c.args.rows.now = omega (arith, row-inside op c.loop-k.k c.loop-k-test.true) in
+    rw (c.loop-k.invariant.0, c.row_width.ensures, c.is_luma_row.ensures) (row-long c.args.s.now _ _ (kept-in-turn op) c.args.at c.args.rows.now c.loop-k.rows c.loop-k.next c.loop-k.k c.loop-k.invariant.1 room)
 
 pub returns-in_err-next : goal.returns-in_err-next
 unfolding ten_at
@@ -35,7 +41,7 @@ loop-k-preserved c =
     rw (c.loop-k.invariant.0, c.row_width.ensures) (row-long c.args.s.now _ _ (kept-in-turn op) c.args.at c.args.rows.now c.loop-k.rows c.loop-k.next c.loop-k.k j room) in (
       omega (arith, before-next op c.loop-k.k, c.loop-k.invariant.0, c.row_width.ensures),
       rw (c.loop-k.invariant.0, c.row_width.ensures)
-          (joined-next c.args.s.now _ _ (kept-in-turn op) c.args.at c.args.rows.now c.loop-k.rows c.loop-k.next c.loop-k.k j c.read_row.new.row (c.read_row.auto.row ∙ e) _ (rw e at (sym c.in_ok-next.ensures))),
+          (joined-next c.args.s.now _ _ (kept-in-turn op) c.args.at c.args.rows.now c.loop-k.rows c.loop-k.next c.loop-k.k j c.read_kept_row.new.place (c.read_kept_row.auto.place ∙ e) _ (rw e at (sym c.in_ok-next.ensures))),
     )
 
 pub returns : goal.returns
