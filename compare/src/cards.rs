@@ -5,7 +5,7 @@ use std::path::Path;
 
 use crate::corpus;
 use crate::exec_context::ExecContext;
-use crate::lines::{Lines, digits, hex, other_bytes, other_order};
+use crate::lines::{Lines, digits, first_comma, hex, other_bytes, other_order};
 use crate::looprestoration::ns_wiener_single_y_8bpc;
 use crate::random::Random;
 
@@ -338,18 +338,15 @@ fn other_lines(out: &mut Vec<Vec<u8>>, lines: &Lines, card: &Card) {
         }
     }
     let filter = lines.text(FILTER);
-    for text in [
+    let longer = [
         filter.clone() + ",0",
         filter.clone() + ",",
         filter.clone() + " ",
         filter.replace('=', "=,"),
         filter.replace('=', "= "),
         filter.replace('=', "=0,"),
-        filter.replacen(',', "", 1),
-        filter.replacen(',', ",,", 1),
-        filter.replacen(',', ", ", 1),
-        filter.replacen(',', ";", 1),
-        filter.replacen(',', " ", 1),
+    ];
+    let others = [
         filter.replace(',', ""),
         filter.rsplit_once(',').expect("commas").0.into(),
         String::from("filter="),
@@ -357,7 +354,8 @@ fn other_lines(out: &mut Vec<Vec<u8>>, lines: &Lines, card: &Card) {
         filter.clone() + "," + &filter.replace("filter=", ""),
         filter.replace("filter", "filters"),
         filter.replace("filter", "Filter"),
-    ] {
+    ];
+    for text in longer.into_iter().chain(first_comma(&filter)).chain(others) {
         out.push(lines.with(FILTER, text));
     }
     let skip = lines.text(SKIP);

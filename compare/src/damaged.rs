@@ -188,7 +188,7 @@ fn lists(_: &mut Random, lines: &Lines) -> Vec<Vec<u8>> {
         let line = lines.text(at);
         let (name, list) = halves(&line);
         let fewer = list.rsplit_once(',').map_or("", |(fewer, _)| fewer);
-        for list in [
+        let of_another_length = [
             format!("{list},0"),
             format!("{list},"),
             format!("0,{list}"),
@@ -196,14 +196,13 @@ fn lists(_: &mut Random, lines: &Lines) -> Vec<Vec<u8>> {
             format!("{list},{list}"),
             fewer.to_string(),
             format!("{fewer},"),
-            list.replacen(',', "", 1),
-            list.replacen(',', ",,", 1),
-            list.replacen(',', ", ", 1),
-            list.replacen(',', ";", 1),
-            list.replacen(',', " ", 1),
-            list.replacen(',', "\n", 1),
-            list.replace(',', ""),
-        ] {
+        ];
+        let without_commas = [list.replacen(',', "\n", 1), list.replace(',', "")];
+        for list in of_another_length
+            .into_iter()
+            .chain(lines::first_comma(list))
+            .chain(without_commas)
+        {
             out.push(lines.with(at, format!("{name}={list}")));
         }
     }

@@ -50,6 +50,11 @@ impl Lines {
     }
 }
 
+/// A list with something else in place of its first comma.
+pub(crate) fn first_comma(list: &str) -> [String; 5] {
+    ["", ",,", ", ", ";", " "].map(|other| list.replacen(',', other, 1))
+}
+
 /// Lines left out, doubled, joined or in another order, and other line ends.
 pub(crate) fn other_order(out: &mut Vec<Vec<u8>>, lines: &Lines) {
     let n = lines.0.len();
