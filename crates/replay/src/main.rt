@@ -12,6 +12,7 @@ mod restore;
 use definition::MAP_SIZE;
 use lists::{LIST_LIMIT, POOL_SIZE, Unit};
 use numbers::Numbers;
+use output::Output;
 use std::array::from_fn;
 use std::io;
 
@@ -41,11 +42,11 @@ fn replay(
     )
 }
 
-fn main(rt: HostRuntime) -> io::Result<()> {
+fn main() {
     let pool = from_fn(numbers::sample);
     let map = from_fn(numbers::map_entry);
     for k in 0..UNITS {
-        replay(&rt, k, &pool, &map)?;
+        // No error comes of it: `Output` passes over what a write can't take.
+        let _ = replay(&Output, k, &pool, &map);
     }
-    Ok(())
 }

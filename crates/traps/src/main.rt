@@ -8,10 +8,11 @@ mod classed;
 mod lists;
 mod luma;
 
-use std::io;
+use output::Output;
 
-fn main(rt: HostRuntime) -> io::Result<()> {
-    luma::all(&rt)?;
-    classed::all(&rt)?;
-    chroma::all(&rt)
+// No error comes of these: `Output` passes over what a write can't take.
+fn main() {
+    let _ = luma::all(&Output);
+    let _ = classed::all(&Output);
+    let _ = chroma::all(&Output);
 }
