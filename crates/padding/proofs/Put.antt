@@ -24,3 +24,10 @@ part_tab l a n m e h =
     (ext_get_or 0 (take n (drop a l)) (tab n (λ j. get_or l (a + j) 0)) (len ∙ sym (length_tab n (λ j. get_or l (a + j) 0)))
     (λ i hi.
     get_or-take n (drop a l) i 0 (omega arith) ∙ get_or-drop a l i 0 ∙ sym (get_or-tab n (λ j. get_or l (a + j) 0) i (omega arith))))
+
+-- a list is all of its bytes
+pub all_tab : (l : List ℕ) → tab (length l) (λ i. get_or l i 0) ≡ l
+all_tab l =
+    let f : ℕ → ℕ = λ i. get_or l i 0 in
+    let len : length (tab (length l) f) ≡ length l = length_tab (length l) f in
+    ext_get_or 0 (tab (length l) f) l len (λ i hi. get_or-tab (length l) f i (omega (arith, hi, len)))

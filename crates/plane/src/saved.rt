@@ -25,7 +25,10 @@ impl<'a> PlaneUnit<'a> {
         if first {
             let from = (self.y + self.h - BORDER) * self.plane.w;
             let n = BORDER * self.plane.w;
-            scratch[to..to + n].copy_from_slice(&p[from..from + n]);
+            // Not by the library's `copy_from_slice`: it became a call of C's memmove, a name that the archive would ask for.
+            for j in 0..n {
+                scratch[to + j] = p[from + j];
+            }
         }
     }
 
