@@ -11,7 +11,7 @@ ghost use Rattle.definition.specs.Leaves.{block_flat, bad_place, place_status};
 ghost use Rattle.class_index.specs.Answers.{class_index_by, indexed_of};
 
 use bounds::is_set;
-use definition::{BLOCK_ROW_LIMIT, INDEX_COUNT, LAST_COLUMN, Refusal};
+use definition::{BLOCK_ROW_LIMIT, INDEX_COUNT, LAST_COLUMN, ROWS_SIZE, Refusal};
 use features::pcw_features;
 use intops::saturating_add;
 use qval::{get_qval_given_tskip, get_qval_lut_bin};
@@ -187,6 +187,10 @@ pub fn get_class_lut_idx_8bpc(
 {
     if place.is_bad() {
         return Err(Refusal::Block);
+    }
+    // Before the features are worked out: where rows lie outside, that is the reason.
+    if noskip.len() < place.bh && ROWS_SIZE <= rows.len() && bounds::indices_up_to(indices, 9) {
+        return Err(Refusal::Masks);
     }
     let sums = pcw_features(rows, indices, place.bx)?;
     class_of_features(sums, noskip, base_q, place)
