@@ -1,12 +1,30 @@
--- Rounding by a shift of 7, the fact that the three filters share: what the machine holds of (s + 64) >> 7.
-use mathlib.Core.Path.{◌≡◌}
-use Prim.Native.Nat.{◌^◌, ◌<◌}
+-- Rounding by a shift of 7 and clipping to 0 .. limit, the fact that the three filters share: what the tests of the code say, and what the
+-- machine holds of (s + 64) >> 7.
+use mathlib.Core.Path.{◌≡◌, sym}
+use mathlib.Core.Bool.{true, false}
+use Prim.Native.Nat.{ℕ, ◌^◌, ◌<◌, ◌≤◌}
 use native.Mathlib.Omega.{arith}
-use lib.IntN.{ℤ, pos, nat_abs, ◌+ℤ◌}
-use lib.Signed.{shr_z}
+use lib.Dec.{T}
+use lib.IntN.{ℤ, pos, negsuc, nat_abs, ◌+ℤ◌}
+use lib.Signed.{lt_z, non_neg, shr_z}
+use borrow.Author.Tests.{ltb-true, ltb-false}
 use mir.Syntax.{w32}
 use mir.Val.{SFits, to_z, of_z}
+use Rattle.definition.specs.Numbers.{clip_to}
+use Rattle.laws.proofs.Ints.{never}
 use Rattle.laws.proofs.Held.{kept, natural, plus, shifted}
+
+pub clip_low : (limit : ℕ) (z : ℤ) → lt_z z (pos 0) ≡ true → 0 ≡ clip_to limit z
+clip_low limit (pos n) h = omega (arith, ltb-true n 0 h)
+clip_low limit (negsuc n) h = omega arith
+
+pub clip_high : (limit : ℕ) (z : ℤ) → lt_z (pos limit) z ≡ true → limit ≡ clip_to limit z
+clip_high limit (pos n) h = omega (arith, ltb-true limit n h)
+clip_high limit (negsuc n) h = absurd (never h)
+
+pub clip_mid : (limit : ℕ) (z : ℤ) → lt_z z (pos 0) ≡ false → lt_z (pos limit) z ≡ false → T (non_neg z) × (nat_abs z ≤ limit) × (nat_abs z ≡ clip_to limit z)
+clip_mid limit (pos n) h k = (tt, ltb-false limit n k, omega (arith, ltb-false limit n k))
+clip_mid limit (negsuc n) h k = absurd (never (sym h))
 
 -- what the machine holds of (s + 64) >> 7
 abbrev pub held : ℤ → ℤ

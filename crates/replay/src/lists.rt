@@ -91,7 +91,7 @@ fn extent(off: usize, rows: usize, stride: usize, row: usize) -> usize
 }
 
 // The ghost fields have the most that its numbers can be, by which no list is longer than the limit.
-#[derive(Drop)]
+#[derive(Clone, Copy)]
 pub struct Unit {
     pub k: usize,
     pub op: Operation,

@@ -8,20 +8,29 @@ ghost use Rattle.definition.specs.StateText.{several_text, list_text, number_lim
 use itoa::Buffer;
 use std::marker::Model;
 
-#[derive(Drop)]
+// Behind the text its memory has zeros alone, so that the text says all that the fields do: the type is Copy.
+#[derive(Clone, Copy)]
 pub struct Text<const N: usize> {
     len: usize,
     bytes: [u8; N],
 }
 
 impl<const N: usize> Model for Text<N> {
-    ghost use Rattle.std.specs.Prelude.{List, ℕ, ◌≤◌, take};
+    ghost use Rattle.std.specs.Prelude.{◌≡◌, ℕ, List, ◌++◌, ◌-◌, ◌≤◌, length, take, drop, replicate};
+    ghost use Rattle.std.proofs.Common.{◌∙◌, ap, sym, subst, length-take-le, take-append-drop};
 
     ghost Value = { List ℕ };
 
     ghost view = { λ t. take t.len t.bytes };
 
-    ghost invariant = { λ t. t.len ≤ N };
+    ghost invariant = { λ t. (t.len ≤ N) × (length t.bytes ≡ N) × (drop t.len t.bytes ≡ replicate (N - t.len) 0) };
+
+    ghost inverse = { λ text. record { len = length text; bytes = text ++ replicate (N - length text) 0 } };
+
+    ghost inverse_ok = { λ t h.
+        let kept = length-take-le t.len t.bytes (subst (λ n. t.len ≤ n) (sym h.1) h.0) in
+        let whole = ap (λ n. take t.len t.bytes ++ replicate (N - n) 0) kept ∙ ap (λ zeros. take t.len t.bytes ++ zeros) (sym h.2) ∙ take-append-drop t.len t.bytes in
+        λ i. record { len = kept i; bytes = whole i } };
 }
 
 // What ends number k of n: a comma, and byte 10 behind the last.

@@ -5,12 +5,12 @@ ghost use Rattle.std.specs.Prelude.{◌≡◌};
 ghost use Rattle.units.specs.Advances.{is_finished};
 ghost use Rattle.units.specs.Openings.{opened_of};
 
-mod advance;
+pub mod advance;
 mod chroma;
 mod classed;
 mod luma_rows;
 mod masks;
-mod opening;
+pub mod opening;
 mod restore;
 mod rows;
 mod state_text;
