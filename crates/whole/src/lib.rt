@@ -35,5 +35,6 @@ pub fn restore(op: Operation, g: Given, p: &mut [u8], lent: &Lists) -> Result<us
     ensures { Whole op (restored_of result) g (lists_lent op lent.now) p.old p.new }
 {
     let mut state = units::open(op, g, &*p, &*lent)?;
-    state.advance_by(op, g.h, p, lent)
+    let unit_pieces = state.advance_by(op, g.h, p, lent)?;
+    Ok(unit_pieces)
 }
