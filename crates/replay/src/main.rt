@@ -13,7 +13,6 @@ use definition::MAP_SIZE;
 use lists::{LIST_LIMIT, POOL_SIZE, Unit};
 use numbers::Numbers;
 use output::Output;
-use std::array::from_fn;
 use std::io;
 
 const UNITS: usize = 768;
@@ -43,8 +42,15 @@ fn replay(
 }
 
 fn main() {
-    let pool = from_fn(numbers::sample);
-    let map = from_fn(numbers::map_entry);
+    // Filled where they stand: `array::from_fn` laid them on the stack two and three times.
+    let mut pool = [0; POOL_SIZE];
+    for i in 0..POOL_SIZE {
+        pool[i] = numbers::sample(i);
+    }
+    let mut map = [0; MAP_SIZE];
+    for i in 0..MAP_SIZE {
+        map[i] = numbers::map_entry(i);
+    }
     for k in 0..UNITS {
         // No error comes of it: `Output` passes over what a write can't take.
         let _ = replay(&Output, k, &pool, &map);
