@@ -1,7 +1,7 @@
 // The standard output, for programs that print what they have and go on: what a write can't take is passed over, and is no error. What is written no contract can say.
 #![tactic(auto)]
 
-ghost use Rattle.std.specs.Prelude.{◌≡◌, ◌≤◌};
+ghost use Rattle.std.specs.Prelude.{◌≡◌, ◌≤◌, length, Ok, IsOk};
 
 use std::fmt::{self, Display, Write as _};
 use std::io::{Result, Write};
@@ -51,33 +51,43 @@ impl fmt::Write for Parts {
 }
 
 impl Print for Output {
-    fn print<D: Display + Drop>(&self, value: D) -> Result<()> {
+    fn print<D: Display + Drop>(&self, value: D) -> Result<()>
+        ensures { IsOk result }
+    {
         let mut parts = Parts::new();
         let _ = parts.write_fmt(value);
         parts.end();
         Ok(())
     }
 
-    fn println<D: Display + Drop>(&self, value: D) -> Result<()> {
+    fn println<D: Display + Drop>(&self, value: D) -> Result<()>
+        ensures { IsOk result }
+    {
         let mut parts = Parts::new();
         let _ = parts.writeln(value);
         parts.end();
         Ok(())
     }
 
-    fn write_all(&self, bytes: &[u8]) -> Result<()> {
+    fn write_all(&self, bytes: &[u8]) -> Result<()>
+        ensures { IsOk result }
+    {
         io::write_all(1, bytes);
         Ok(())
     }
 }
 
 impl Write for Output {
-    fn write(&mut self, bytes: &[u8]) -> Result<usize> {
+    fn write(&mut self, bytes: &[u8]) -> Result<usize>
+        ensures { result ≡ Ok (length bytes.now) }
+    {
         io::write_all(1, bytes);
         Ok(bytes.len())
     }
 
-    fn flush(&mut self) -> Result<()> {
+    fn flush(&mut self) -> Result<()>
+        ensures { IsOk result }
+    {
         Ok(())
     }
 }
