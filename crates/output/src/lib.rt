@@ -2,6 +2,7 @@
 #![tactic(auto)]
 
 ghost use Rattle.std.specs.Prelude.{◌≡◌, ◌≤◌, length, Ok, IsOk};
+ghost use Rattle.output.specs.declared.TheConstants.{SPACE};
 
 use std::fmt::{self, Display, Write as _};
 use std::io::{Result, Write};
@@ -17,7 +18,7 @@ const SPACE: usize = 256;
 struct Parts {
     len: usize,
     space: [u8; SPACE],
-    ghost inside: { len ≤ 256 },
+    ghost inside: { len ≤ SPACE },
 }
 
 impl Parts {
