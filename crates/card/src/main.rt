@@ -3,10 +3,9 @@
 #![tactic(auto)]
 
 use card_reader::INPUT_SIZE;
-use output::Output;
 
 fn main() {
     let mut input = [0u8; INPUT_SIZE];
     let n = io::read_full(0, &mut input);
-    card_print::print_answer(&mut Output, &input[..n]);
+    card_print::print_answer(&input[..n]);
 }

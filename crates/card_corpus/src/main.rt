@@ -4,10 +4,10 @@
 #![tactic(auto)]
 
 use std::fs::{self, File};
-use std::io::{self, Write};
+use std::io;
 
 // Answers the next card, and tells whether there was one.
-fn answer_next<W: Write>(lengths: &mut File, cards: &mut File, out: &mut W) -> io::Result<bool> {
+fn answer_next(lengths: &mut File, cards: &mut File) -> io::Result<bool> {
     let mut length = [0u8; 2];
     if card_print::read_full(lengths, &mut length)? != 2 {
         return Ok(false);
@@ -15,7 +15,7 @@ fn answer_next<W: Write>(lengths: &mut File, cards: &mut File, out: &mut W) -> i
     let n = usize::from(u16::from_le_bytes(length));
     let mut space = [0u8; 65536];
     let got = card_print::read_full(cards, &mut space[..n])?;
-    card_print::print_answer(out, &space[..got]);
+    card_print::print_answer(&space[..got]);
     Ok(true)
 }
 
@@ -24,7 +24,7 @@ fn main(rt: HostRuntime) -> io::Result<()> {
     let mut cards = fs::open(&rt, "cards")?;
     // A proved loop has to end, and nothing says that a file does.
     for _ in 0..u64::MAX {
-        if !answer_next(&mut lengths, &mut cards, &mut rt.stdout())? {
+        if !answer_next(&mut lengths, &mut cards)? {
             break;
         }
     }

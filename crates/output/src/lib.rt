@@ -1,11 +1,11 @@
 // The standard output, for programs that print what they have and go on: what a write can't take is passed over, and is no error. What is written no contract can say.
 #![tactic(auto)]
 
-ghost use Rattle.std.specs.Prelude.{◌≡◌, ◌≤◌, length, Ok, IsOk};
+ghost use Rattle.std.specs.Prelude.{◌≡◌, ◌≤◌, IsOk};
 ghost use Rattle.output.specs.declared.TheConstants.{SPACE};
 
 use std::fmt::{self, Display, Write as _};
-use std::io::{Result, Write};
+use std::io::Result;
 
 #[derive(Clone, Copy)]
 pub struct Output;
@@ -74,21 +74,6 @@ impl Print for Output {
         ensures { IsOk result }
     {
         io::write_all(1, bytes);
-        Ok(())
-    }
-}
-
-impl Write for Output {
-    fn write(&mut self, bytes: &[u8]) -> Result<usize>
-        ensures { result ≡ Ok (length bytes.now) }
-    {
-        io::write_all(1, bytes);
-        Ok(bytes.len())
-    }
-
-    fn flush(&mut self) -> Result<()>
-        ensures { IsOk result }
-    {
         Ok(())
     }
 }
