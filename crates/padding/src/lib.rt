@@ -43,8 +43,8 @@ pub fn backup_row_8bpc(
     Ok(())
 }
 
-// A saved row, or a row of the plane outside the unit: its left samples stand before it. Behind a call of its own it takes C up to twice the time, since the numbers that are handed
-// on by the stack are stored one by one and read two at a time.
+// A saved row, or a row of the plane outside the unit: its left samples stand before it. Inlined: behind a call of its own it took C 1.6 to 1.7 times
+// the time.
 #[tactic(auto, using(crate::proofs::Status::own_status, crate::proofs::Status::own_padded))]
 #[inline(always)]
 pub fn backup_row_lpf_8bpc(
